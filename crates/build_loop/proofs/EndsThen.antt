@@ -21,10 +21,11 @@ use Rattle.run_spec.specs.ChildJournal.{Work, End, job_of, core_of, book_of}
 use Rattle.run_spec.specs.Commits.{record_at, commit_of, commits}
 use Rattle.build_slots.specs.declared.slots.Slots.{Slots}
 use Rattle.build_slots.specs.Machines.{IsMachineOf, is_checked, is_stopped_in}
-use Rattle.build_loop.specs.declared.faults.BuildFault.{BuildFault}
-use Rattle.build_loop.specs.declared.faults.BuildFault.TheVariants.{NoMemory, StartFailed, ChildLost, DiskFailed}
+use Rattle.run_steps.specs.declared.fault.RunFault.{RunFault}
+use Rattle.run_steps.specs.declared.fault.RunFault.TheVariants.{NoMemory, StartFailed, ChildLost, DiskFailed}
 use Rattle.build_loop.specs.Commits.{latest_after, HoldsFirst}
-use Rattle.build_loop.specs.Faults.{noted_with, is_no_memory, is_all_committed, CountsCommit, is_disk_failed, ComesFirst}
+use Rattle.run_steps.specs.Faults.{noted_with, is_no_memory}
+use Rattle.build_loop.specs.Faults.{is_all_committed, CountsCommit, is_disk_failed, ComesFirst}
 use Rattle.build_loop.specs.UnderWay.{Origin, BuildState, work_from, IsUnderWay, TakesEnd}
 use Rattle.run_steps.specs.Steps.{halted_if}
 use Rattle.build_loop.proofs.MarksThen.{mark_of_exit}
@@ -34,7 +35,7 @@ use Rattle.build_loop.proofs.FirstFaults.{first_kept, first_acknowledged, first_
 use Rattle.build_loop.proofs.UnderWayThen.{end, built_now, commits_ended, machine_ended, ended_under_way}
 
 -- what failed to be committed isn't among what is
-pub failed_commit : (noted : Option BuildFault) (fault : BuildFault) (before now : ℕ) → CountsCommit {T = Unit {0}} (Err fault) before now → (broken : Bool) → broken ≡ is_disk_failed {T = Unit {0}} (Err fault) →
+pub failed_commit : (noted : Option RunFault) (fault : RunFault) (before now : ℕ) → CountsCommit {T = Unit {0}} (Err fault) before now → (broken : Bool) → broken ≡ is_disk_failed {T = Unit {0}} (Err fault) →
     is_all_committed (Some (noted_with noted fault)) broken ≡ true → false ≡ true
 failed_commit noted NoMemory before now cause broken is h = h
 failed_commit noted StartFailed before now cause broken is h = absurd cause
@@ -49,7 +50,7 @@ no_both : {A : Type 0} → false ≡ true → A
 no_both h = let nothing : ⊥ = cc in absurd nothing
 
 -- the store is usable where all is committed
-pub usable_where_all : (noted : Option BuildFault) (broken : Bool) → is_all_committed noted broken ≡ true → broken ≡ false
+pub usable_where_all : (noted : Option RunFault) (broken : Bool) → is_all_committed noted broken ≡ true → broken ≡ false
 usable_where_all noted broken on = not-true broken (and_parts (not (is_no_memory noted)) (not broken) on).1
 
 module _ (told : Type 0) (records_of : Image → List Record) (graph : List Entry) (from : Origin) (events : List Event) (acknowledged : ℕ) (state : BuildState) (moments : Moments)
@@ -124,7 +125,7 @@ module _ (told : Type 0) (records_of : Image → List Record) (graph : List Entr
             (holds_left acknowledged state.broken (commits s events) (one ∷ []) records_of from.moments moments is.committed.few (holds t));
       }
 
-      pub takes_commit : all ≡ true → (ok : Bool) (machine'' : Slots) (noted' : Option BuildFault) (later : FileName → Option Record) (broken' : Bool) (last : Moments) →
+      pub takes_commit : all ≡ true → (ok : Bool) (machine'' : Slots) (noted' : Option RunFault) (later : FileName → Option Record) (broken' : Bool) (last : Moments) →
           (noted' ≡ None → (state.noted ≡ None) × (broken' ≡ false)) → (is_all_committed noted' broken' ≡ true → ok ≡ true) →
           ((k : ℕ) → is_checked machine'' k ≡ is_checked machine' k) → is_stopped_in machine'' ≡ is_some noted' →
           ((job : Job) (c : Core) → IsMachineOf machine' job (halted_if (is_some state.noted) c) → IsMachineOf machine'' job (halted_if (is_some noted') c)) →
@@ -151,7 +152,7 @@ module _ (told : Type 0) (records_of : Image → List Record) (graph : List Entr
       first_committed on broken' =
           first_acknowledged s (events ++ ended ∷ []) acknowledged state.broken state.noted (acknowledged + 1) broken' (usable_where_all state.noted state.broken on) (omega arith) (first_kept s events acknowledged state.broken state.noted ended is.comes_first)
 
-      pub first_failed : all ≡ true → (fault : BuildFault) (before now : ℕ) → CountsCommit {T = Unit {0}} (Err fault) before now → (broken' : Bool) → broken' ≡ is_disk_failed {T = Unit {0}} (Err fault) →
+      pub first_failed : all ≡ true → (fault : RunFault) (before now : ℕ) → CountsCommit {T = Unit {0}} (Err fault) before now → (broken' : Bool) → broken' ≡ is_disk_failed {T = Unit {0}} (Err fault) →
           ComesFirst (Some (noted_with state.noted fault)) s (events ++ ended ∷ []) (acknowledged + 0) broken'
       first_failed on fault before now cause broken' breaks =
           first_uncommitted s events acknowledged state.noted state.broken ended one fault broken' before now cause breaks is.none_lost refl (all_few s events all from.latest_of state.latest_of acknowledged is.committed on) commits_one_more

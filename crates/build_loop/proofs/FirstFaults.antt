@@ -11,9 +11,10 @@ use Rattle.outside.specs.Records.{Record}
 use Rattle.run_spec.specs.ChildJournal.{Work, is_gone}
 use Rattle.run_spec.specs.Commits.{commits}
 use Rattle.run_spec.proofs.Prefixes.{commits_prefix}
-use Rattle.build_loop.specs.declared.faults.BuildFault.{BuildFault}
-use Rattle.build_loop.specs.declared.faults.BuildFault.TheVariants.{NoMemory, StartFailed, ChildLost, DiskFailed}
-use Rattle.build_loop.specs.Faults.{noted_with, before_loss, given_before_loss, is_of_disk, is_disk_failed, CountsStart, CountsCommit, ComesFirst}
+use Rattle.run_steps.specs.declared.fault.RunFault.{RunFault}
+use Rattle.run_steps.specs.declared.fault.RunFault.TheVariants.{NoMemory, StartFailed, ChildLost, DiskFailed}
+use Rattle.run_steps.specs.Faults.{noted_with, CountsStart}
+use Rattle.build_loop.specs.Faults.{before_loss, given_before_loss, is_of_disk, is_disk_failed, CountsCommit, ComesFirst}
 
 abbrev goes_by : Event → Bool
 goes_by event = not (is_gone event)
@@ -64,12 +65,12 @@ module _ (s : Work) (events : List Event) where
   lost_still more lost = list_any-append is_gone events more ∙ ap (λ (b : Bool). b || list_any is_gone more) lost
 
   module _ (acknowledged : ℕ) (broken : Bool) where
-    pub first_of_none : (noted : Option BuildFault) → noted ≡ None → ComesFirst noted s events acknowledged broken
+    pub first_of_none : (noted : Option RunFault) → noted ≡ None → ComesFirst noted s events acknowledged broken
     first_of_none None none = tt
     first_of_none (Some fault) none = let nothing : ⊥ = cc in absurd nothing
 
     -- after one more event
-    pub first_kept : (noted : Option BuildFault) (event : Event) → ComesFirst noted s events acknowledged broken → ComesFirst noted s (events ++ event ∷ []) acknowledged broken
+    pub first_kept : (noted : Option RunFault) (event : Event) → ComesFirst noted s events acknowledged broken → ComesFirst noted s (events ++ event ∷ []) acknowledged broken
     first_kept None event is = tt
     first_kept (Some NoMemory) event is = tt
     first_kept (Some StartFailed) event is = tt
@@ -77,7 +78,7 @@ module _ (s : Work) (events : List Event) where
     first_kept (Some DiskFailed) event is = record { breaks = is.breaks; before = omega (arith, is.before, given_grows (event ∷ [])) }
 
     -- where more is acknowledged, while the store was usable
-    pub first_acknowledged : (noted : Option BuildFault) (acknowledged' : ℕ) (broken' : Bool) → broken ≡ false → acknowledged ≤ acknowledged' → ComesFirst noted s events acknowledged broken → ComesFirst noted s events acknowledged' broken'
+    pub first_acknowledged : (noted : Option RunFault) (acknowledged' : ℕ) (broken' : Bool) → broken ≡ false → acknowledged ≤ acknowledged' → ComesFirst noted s events acknowledged broken → ComesFirst noted s events acknowledged' broken'
     first_acknowledged None acknowledged' broken' usable le is = tt
     first_acknowledged (Some NoMemory) acknowledged' broken' usable le is = tt
     first_acknowledged (Some StartFailed) acknowledged' broken' usable le is = tt
@@ -85,7 +86,7 @@ module _ (s : Work) (events : List Event) where
     first_acknowledged (Some DiskFailed) acknowledged' broken' usable le is = absurd (false≢true (sym usable ∙ is.breaks))
 
     -- a start has failed, or something was out of memory
-    pub first_start : (noted : Option BuildFault) (fault : BuildFault) (before now : ℕ) → noted ≡ None → CountsStart {T = ℕ} (Err fault) before now → ComesFirst (Some (noted_with noted fault)) s events acknowledged broken
+    pub first_start : (noted : Option RunFault) (fault : RunFault) (before now : ℕ) → noted ≡ None → CountsStart {T = ℕ} (Err fault) before now → ComesFirst (Some (noted_with noted fault)) s events acknowledged broken
     first_start (Some first) fault before now none cause = let nothing : ⊥ = cc in absurd nothing
     first_start None NoMemory before now none cause = tt
     first_start None StartFailed before now none cause = tt
@@ -100,7 +101,7 @@ module _ (s : Work) (events : List Event) where
         or_true true = refl
         or_true false = refl
 
-      pub first_lost : (noted : Option BuildFault) (fault : BuildFault) → is_of_disk fault ≡ false → (noted ≡ None → (list_any is_gone events ≡ false) × (length (commits s events) ≤ acknowledged)) →
+      pub first_lost : (noted : Option RunFault) (fault : RunFault) → is_of_disk fault ≡ false → (noted ≡ None → (list_any is_gone events ≡ false) × (length (commits s events) ≤ acknowledged)) →
           ComesFirst noted s events acknowledged broken → ComesFirst (Some (noted_with noted fault)) s (events ++ Gone ticket ∷ []) acknowledged broken
       first_lost noted NoMemory kind none is = tt
       first_lost None StartFailed kind none is = tt
@@ -114,7 +115,7 @@ module _ (s : Work) (events : List Event) where
       first_lost (Some first) DiskFailed kind none is = first_kept (Some first) (Gone ticket) is
 
 -- a record isn't committed, once all before was
-pub first_uncommitted : (s : Work) (events : List Event) (acknowledged : ℕ) (noted : Option BuildFault) (broken : Bool) (event : Event) (one : Record) (fault : BuildFault) (broken' : Bool) (before now : ℕ) → CountsCommit {T = Unit {0}} (Err fault) before now →
+pub first_uncommitted : (s : Work) (events : List Event) (acknowledged : ℕ) (noted : Option RunFault) (broken : Bool) (event : Event) (one : Record) (fault : RunFault) (broken' : Bool) (before now : ℕ) → CountsCommit {T = Unit {0}} (Err fault) before now →
     broken' ≡ is_disk_failed {T = Unit {0}} (Err fault) → (noted ≡ None → list_any is_gone events ≡ false) → is_gone event ≡ false → acknowledged ≡ length (commits s events) →
     commits s (events ++ event ∷ []) ≡ commits s events ++ one ∷ [] → broken ≡ false → ComesFirst noted s events acknowledged broken → ComesFirst (Some (noted_with noted fault)) s (events ++ event ∷ []) (acknowledged + 0) broken'
 first_uncommitted s events acknowledged noted broken event one NoMemory broken' before now cause breaks none here all more usable is = tt

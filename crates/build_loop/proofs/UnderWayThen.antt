@@ -36,10 +36,11 @@ use Rattle.build_slots.specs.declared.slots.Slots.{Slots}
 use Rattle.run_steps.specs.declared.step.Step.TheVariants.{Start}
 use Rattle.build_slots.specs.Machines.{IsMachineOf, is_checked, is_stopped_in}
 use Rattle.run_steps.specs.Steps.{step_of, step_at}
-use Rattle.build_loop.specs.declared.faults.BuildFault.{BuildFault}
-use Rattle.build_loop.specs.declared.faults.BuildFault.TheVariants.{NoMemory, StartFailed, ChildLost, DiskFailed}
+use Rattle.run_steps.specs.declared.fault.RunFault.{RunFault}
+use Rattle.run_steps.specs.declared.fault.RunFault.TheVariants.{NoMemory, StartFailed, ChildLost, DiskFailed}
 use Rattle.build_loop.specs.Commits.{latest_after, Acknowledges}
-use Rattle.build_loop.specs.Faults.{noted_with, is_all_committed, is_of_disk, ComesFirst}
+use Rattle.run_steps.specs.Faults.{noted_with}
+use Rattle.build_loop.specs.Faults.{is_all_committed, is_of_disk, ComesFirst}
 use Rattle.build_loop.specs.Requests.{lent_request, AreRecorded, KeepsFirst}
 use Rattle.build_loop.specs.UnderWay.{Origin, BuildState, with_machine, work_from, IsDueOver, HasRecords, IsUnderWay}
 use Rattle.build_loop.specs.Marks.{waiting_mark, known_mark, known_marks}
@@ -56,11 +57,11 @@ use Rattle.build_loop.proofs.Unchecked.{none_printed, fits_as, recorded_current}
 use Rattle.build_loop.proofs.Acknowledging.{knows_all, all_few, acknowledges_left}
 use Rattle.build_loop.proofs.FirstFaults.{first_of_none, first_lost}
 
-pub none_noted : (noted : Option BuildFault) → is_some noted ≡ false → noted ≡ None
+pub none_noted : (noted : Option RunFault) → is_some noted ≡ false → noted ≡ None
 none_noted None h = refl
 none_noted (Some fault) h = let nothing : ⊥ = cc in absurd nothing
 
-pub not_noted : {A : Type 0} (fault : BuildFault) → ◌≡◌ {A = Option BuildFault} (Some fault) None → A
+pub not_noted : {A : Type 0} (fault : RunFault) → ◌≡◌ {A = Option RunFault} (Some fault) None → A
 not_noted fault h = let nothing : ⊥ = cc in absurd nothing
 
 no_some : {X : Type 0} (o : Option X) → is_some o ≡ false → o ≡ None
@@ -80,11 +81,11 @@ no_exit position (end ∷ ends) h =
       true≢false e = cc
 
 -- while nothing is noted all is committed
-pub all_while : (noted : Option BuildFault) (broken : Bool) → noted ≡ None → (noted ≡ None → broken ≡ false) → is_all_committed noted broken ≡ true
-all_while noted broken none usable = ap (λ (o : Option BuildFault). is_all_committed o broken) none ∙ ap not (usable none)
+pub all_while : (noted : Option RunFault) (broken : Bool) → noted ≡ None → (noted ≡ None → broken ≡ false) → is_all_committed noted broken ≡ true
+all_while noted broken none usable = ap (λ (o : Option RunFault). is_all_committed o broken) none ∙ ap not (usable none)
 
 -- after one more fault no more is committed than before
-pub still_all : (noted : Option BuildFault) (fault : BuildFault) (broken : Bool) → is_all_committed (Some (noted_with noted fault)) broken ≡ true → is_all_committed noted broken ≡ true
+pub still_all : (noted : Option RunFault) (fault : RunFault) (broken : Bool) → is_all_committed (Some (noted_with noted fault)) broken ≡ true → is_all_committed noted broken ≡ true
 still_all noted NoMemory broken h = let nothing : ⊥ = cc in absurd nothing
 still_all None StartFailed broken h = h
 still_all None ChildLost broken h = h
@@ -305,7 +306,7 @@ module _ (graph : List Entry) (from : Origin) (events : List Event) (acknowledge
       ]
 
   -- a fault halts it
-  pub halted_under_way : (machine' : Slots) (fault : BuildFault) → ((k : ℕ) → is_checked machine' k ≡ is_checked state.machine k) → is_stopped_in machine' ≡ true → IsMachineOf machine' (job_of s) (halted_if true core) → (is_all_committed (Some fault) state.broken ≡ true → all ≡ true) → ComesFirst (Some fault) s events acknowledged state.broken →
+  pub halted_under_way : (machine' : Slots) (fault : RunFault) → ((k : ℕ) → is_checked machine' k ≡ is_checked state.machine k) → is_stopped_in machine' ≡ true → IsMachineOf machine' (job_of s) (halted_if true core) → (is_all_committed (Some fault) state.broken ≡ true → all ≡ true) → ComesFirst (Some fault) s events acknowledged state.broken →
       IsUnderWay graph from events acknowledged (with_machine machine' (Some fault) state)
   halted_under_way machine' fault checked stopped step still first = record {
     is_graph = is.is_graph;
@@ -335,10 +336,10 @@ module _ (graph : List Entry) (from : Origin) (events : List Event) (acknowledge
   recorded_lost ticket = records_left s from.latest_of book is.recorded ticket book.taken true
 
   -- the end of a child is lost
-  pub lost_under_way : (ticket : ℕ) (machine' : Slots) (fault : BuildFault) → ((k : ℕ) → is_checked machine' k ≡ is_checked state.machine k) → is_stopped_in machine' ≡ true → is_of_disk fault ≡ false → is_running core ticket ≡ true → IsMachineOf machine' (job_of s) (after_move (job_of s) (halted_if (is_some state.noted) core) (Loses ticket)) →
+  pub lost_under_way : (ticket : ℕ) (machine' : Slots) (fault : RunFault) → ((k : ℕ) → is_checked machine' k ≡ is_checked state.machine k) → is_stopped_in machine' ≡ true → is_of_disk fault ≡ false → is_running core ticket ≡ true → IsMachineOf machine' (job_of s) (after_move (job_of s) (halted_if (is_some state.noted) core) (Loses ticket)) →
       IsUnderWay graph from (events ++ Gone ticket ∷ []) acknowledged (with_machine machine' (Some (noted_with state.noted fault)) state)
   lost_under_way ticket machine' why checked stopped kind runs step =
-      let fault : BuildFault = noted_with state.noted why in
+      let fault : RunFault = noted_with state.noted why in
       let still : is_all_committed (Some fault) state.broken ≡ true → all ≡ true = still_all state.noted why state.broken in
       let same : (book_of s (events ++ Gone ticket ∷ [])).ends ≡ book.ends = ends_gone s events ticket in
       record {
@@ -466,7 +467,7 @@ module _ (graph : List Entry) (from : Origin) (events : List Event) (acknowledge
 
     -- after its end
     pub ended_under_way : (runs : is_running core ticket ≡ true) (greedy : start_now (job_of s) (halted_if (is_some state.noted) core) ≡ None) (mark : Mark) → mark ≡ mark_of_exit exit →
-        (acknowledged' : ℕ) (machine' : Slots) (noted' : Option BuildFault) (later : FileName → Option Record) (broken' : Bool) → is_checked state.machine at ≡ true → ((k : ℕ) → is_checked machine' k ≡ is_checked state.machine k) →
+        (acknowledged' : ℕ) (machine' : Slots) (noted' : Option RunFault) (later : FileName → Option Record) (broken' : Bool) → is_checked state.machine at ≡ true → ((k : ℕ) → is_checked machine' k ≡ is_checked state.machine k) →
         ((k : ℕ) → k < length graph → is_checked state.machine k ≡ true → list_all (is_made_so_far (job_of s) core) (deps_at graph k) ≡ true) → is_stopped_in machine' ≡ is_some noted' →
         (noted' ≡ None → (state.noted ≡ None) × (broken' ≡ false)) →
         IsMachineOf machine' (job_of s) (halted_if (is_some noted') (core_of (book_of s (events ++ ended ∷ [])))) →
@@ -487,4 +488,4 @@ module _ (graph : List Entry) (from : Origin) (events : List Event) (acknowledge
       comes_first = first;
     } where
       start_none : state.noted ≡ None → start_now (job_of s) core ≡ None
-      start_none n = ap (start_now (job_of s)) (sym (halted_not core)) ∙ ap (λ (o : Option BuildFault). start_now (job_of s) (halted_if (is_some o) core)) (sym n) ∙ greedy
+      start_none n = ap (start_now (job_of s)) (sym (halted_not core)) ∙ ap (λ (o : Option RunFault). start_now (job_of s) (halted_if (is_some o) core)) (sym n) ∙ greedy

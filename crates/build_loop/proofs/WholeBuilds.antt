@@ -30,10 +30,11 @@ use Rattle.run_spec.proofs.Waiting.{waits_none}
 use Rattle.build_slots.specs.declared.slots.Slots.{Slots}
 use Rattle.build_slots.specs.Machines.{IsMachineOf, is_checked, is_stopped_in}
 use Rattle.build_loop.specs.Marks.{waiting_mark, known_mark, known_marks}
-use Rattle.build_loop.specs.declared.faults.BuildFault.{BuildFault}
-use Rattle.build_loop.specs.declared.faults.BuildFault.TheVariants.{NoMemory}
+use Rattle.run_steps.specs.declared.fault.RunFault.{RunFault}
+use Rattle.run_steps.specs.declared.fault.RunFault.TheVariants.{NoMemory}
 use Rattle.build_loop.specs.Commits.{Acknowledges, HoldsFirst}
-use Rattle.build_loop.specs.Faults.{is_all_committed, CountsBy}
+use Rattle.run_steps.specs.Faults.{CountsBy}
+use Rattle.build_loop.specs.Faults.{is_all_committed}
 use Rattle.build_loop.specs.UnderWay.{Origin, BuildState, with_machine, Told, work_from, IsUnderWay, IsJournalled, GoesOn, Goes}
 use Rattle.run_steps.specs.Steps.{halted_if}
 use Rattle.build_loop.specs.Ran.{BuildObjects, BuildRan, is_made}
@@ -162,10 +163,10 @@ module _ (tells told : Type 0) (answer : Request → Exit) (records_of : Image �
     images = goes.images;
   }
 
-  pub ran_fault : (fault : BuildFault) → state.noted ≡ Some fault → (Says : List Event → Type 0) →
+  pub ran_fault : (fault : RunFault) → state.noted ≡ Some fault → (Says : List Event → Type 0) →
       BuildRan tells told answer records_of s at_first at_last (record { ended = false; fault = Some fault; broken = state.broken }) Says
   ran_fault fault is Says =
-      subst (λ (o : Option BuildFault). BuildRan tells told answer records_of s at_first at_last (record { ended = false; fault = o; broken = state.broken }) Says) is (ran_halted Says)
+      subst (λ (o : Option RunFault). BuildRan tells told answer records_of s at_first at_last (record { ended = false; fault = o; broken = state.broken }) Says) is (ran_halted Says)
 
   -- it has ended by itself
   pub ran_done : state.noted ≡ None → IsFinished (job_of s) (halted_if (is_some state.noted) (core_of (book_of s goes.events))) → ((at : ℕ) → at < length graph → is_checked state.machine at ≡ false → (is_taken (core_of (book_of s goes.events)) at ≡ false) × (is_made_so_far (job_of s) (core_of (book_of s goes.events)) at ≡ false))
@@ -173,8 +174,8 @@ module _ (tells told : Type 0) (answer : Request → Exit) (records_of : Image �
       BuildRan tells told answer records_of s at_first at_last (record { ended = true; fault = None; broken = state.broken }) (λ events. said ≡ marks_of s events)
   ran_done none finished idle said same =
       let core : Core = core_of (book_of s goes.events) in
-      let over : IsFinished (job_of s) core = subst (IsFinished (job_of s)) (ap (λ (o : Option BuildFault). halted_if (is_some o) core) none ∙ halted_not core) finished in
-      let still : is_all_committed state.noted state.broken ≡ is_all_committed None state.broken = ap (λ (o : Option BuildFault). is_all_committed o state.broken) none in
+      let over : IsFinished (job_of s) core = subst (IsFinished (job_of s)) (ap (λ (o : Option RunFault). halted_if (is_some o) core) none ∙ halted_not core) finished in
+      let still : is_all_committed state.noted state.broken ≡ is_all_committed None state.broken = ap (λ (o : Option RunFault). is_all_committed o state.broken) none in
       record {
         events = goes.events;
         journal = λ t. (goes.journal t).follows;
@@ -193,15 +194,6 @@ module _ (tells told : Type 0) (answer : Request → Exit) (records_of : Image �
         recorded = OnTrue_from (is_all_committed None state.broken) _ (λ on. knows_files (still ∙ on));
         images = goes.images;
       }
-
--- no fault was counted yet
-pub counts_at_first : (broken : Bool) (first : BuildFaultCounts) → broken ≡ false → CountsBy None broken first first
-counts_at_first broken first usable = record {
-  none_fell = record { children = record { starts = omega arith; losses = omega arith }; disks = omega arith };
-  explains = refl;
-  start_first = tt;
-  breaks = λ b. absurd (false≢true (sym usable ∙ b));
-}
 
 -- a file that is fresh or compiled has an artefact
 marked_has : (keep_going : Bool) (exit : Option Exit) (artefact : Option (List ℕ)) → is_made (mark_of keep_going exit artefact) ≡ true → is_some artefact ≡ true
@@ -245,7 +237,7 @@ marks_recorded graph from events acknowledged state is none position mark at mad
     (known_has s ends state.machine position (ap is_made there.1 ∙ made))
 
 -- after a start, or where it failed
-pub goes_on : (tells told : Type 0) (answer answers : Request → Exit) (records_of : Image → List Record) (graph : List Entry) (from : Origin) (state : BuildState) (now : Told) (machine : Slots) (noted : Option BuildFault) (journal : List Event) → answers ≡ answer →
+pub goes_on : (tells told : Type 0) (answer answers : Request → Exit) (records_of : Image → List Record) (graph : List Entry) (from : Origin) (state : BuildState) (now : Told) (machine : Slots) (noted : Option RunFault) (journal : List Event) → answers ≡ answer →
     (goes : Goes tells told answer records_of graph from state now) →
     ((tells → IsJournalled answers (work_from graph from) goes.events from.journal now.journal) → GoesOn tells answers graph from goes.events goes.acknowledged (with_machine machine noted state) journal) →
     Goes tells told answer records_of graph from (with_machine machine noted state) (record { journal = journal; moments = now.moments })

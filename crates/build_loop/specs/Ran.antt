@@ -17,7 +17,7 @@ use Rattle.run_spec.specs.Moves.{empty_core, LawfulMoves, IsFinished}
 use Rattle.run_spec.specs.ChildJournal.{Work, Lawful, Answered, Greedy, core_of, book_of, empty_book, job_of, moves_of, AreRequested, IsWhole, artefact_after, files_below, built_file, is_gone}
 use Rattle.run_spec.specs.Commits.{commits, record_at}
 use Rattle.build_loop.specs.Commits.{Acknowledges, HoldsFirst}
-use Rattle.build_loop.specs.declared.faults.BuildFault.{BuildFault}
+use Rattle.run_steps.specs.declared.fault.RunFault.{RunFault}
 use Rattle.build_loop.specs.Faults.{is_all_committed, ComesFirst}
 
 -- the file is made: its record is current, or it was compiled
@@ -42,7 +42,7 @@ pub record BuildObjects : Type 0 where
 -- how a build ended: whether by itself, the fault that it answers, and whether its store is broken
 pub record Ending : Type 0 where
   pub ended : Bool
-  pub fault : Option BuildFault
+  pub fault : Option RunFault
   pub broken : Bool
 
 -- What a build did. Its events are what the journal has since it was old. They are lawful after a fault too: each start is

@@ -17,7 +17,7 @@ use Rattle.run_spec.specs.ChildJournal.{Work, Run, End, Book, core_of, book_of, 
 use Rattle.build_slots.specs.declared.slots.Slots.{Slots}
 use Rattle.build_slots.specs.Machines.{IsMachineOf, is_stopped_in}
 use Rattle.run_steps.specs.Steps.{halted_if}
-use Rattle.build_loop.specs.declared.faults.BuildFault.{BuildFault}
+use Rattle.run_steps.specs.declared.fault.RunFault.{RunFault}
 use Rattle.run_spec.specs.Commits.{work_of, record_at, commits, commits_of}
 use Rattle.build_loop.specs.Commits.{latest_after, Acknowledges, HoldsFirst}
 use Rattle.build_loop.specs.Faults.{is_all_committed, ComesFirst}
@@ -37,12 +37,12 @@ pub record Origin : Type 0 where
 pub record BuildState : Type 0 where
   pub machine : Slots
   pub marks : List Mark
-  pub noted : Option BuildFault
+  pub noted : Option RunFault
   pub latest_of : FileName → Option Record
   pub broken : Bool
 
 -- a state with another machine and another noted fault
-abbrev pub with_machine : Slots → Option BuildFault → BuildState → BuildState
+abbrev pub with_machine : Slots → Option RunFault → BuildState → BuildState
 with_machine machine noted state = record { machine = machine; marks = state.marks; noted = noted; latest_of = state.latest_of; broken = state.broken }
 
 -- what children and disk tell at one moment: the events of the journal, and the moments of the disk

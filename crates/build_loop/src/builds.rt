@@ -13,12 +13,11 @@ ghost use Rattle.run_spec.specs.Marks.{marks_of};
 ghost use Rattle.run_spec.specs.ChildJournal.{job_of};
 ghost use Rattle.run_spec.specs.Commits.{work_of};
 ghost use Rattle.build_loop.specs.Marks.{known_marks};
-ghost use Rattle.build_loop.specs.Faults.{CountsBy, fault_of};
+ghost use Rattle.run_steps.specs.Faults.{CountsBy, fault_of};
 ghost use Rattle.build_loop.specs.Ran.{BuildRan, is_made};
 
 use crate::checks::check_one;
 use crate::ends::end_one;
-use crate::faults::BuildFault;
 use crate::marks::{due_files, first_marks};
 use crate::requests::Gathered;
 use crate::starts::start_one;
@@ -26,7 +25,7 @@ use base::{FILE_LIMIT, Graph, Items, NoMemory, SLOT_LIMIT};
 use build_slots::{BuildStep, Slots, plan};
 use outside::{Disk, Procs, Records};
 use run_spec::{Mark, MarkList};
-use run_steps::Step;
+use run_steps::{RunFault, Step};
 use std::alloc::Global;
 
 /// A build before its first start.
@@ -43,12 +42,11 @@ fn begin<K: Records>(
     alloc: Global,
     graph: &Graph,
     store: &K,
-    seats: &K::Seats,
     limit: u32,
     keep_going: bool,
 ) -> Result<Begun, NoMemory>
     requires limit { (1 ≤ limit) × (limit ≤ SLOT_LIMIT) }
-    requires seated { K.is_seated store.now graph.now seats.now }
+    requires over { K.is_over store.now graph.now }
     ensures graph { IfOk result (λ begun. IsGraph graph.now) }
     ensures files { IfOk result (λ begun. files_of begun.slots ≡ length graph.now) }
     ensures tickets { IfOk result (λ begun. tickets_of begun.slots ≡ []) }
@@ -59,14 +57,14 @@ fn begin<K: Records>(
     ensures stopped { IfOk result (λ begun. is_stopped_in begun.slots ≡ false) }
 {
     prove!(graph.len() <= FILE_LIMIT as u64);
-    let plan = plan(alloc, graph, store, seats)?;
+    let plan = plan(alloc, graph, store)?;
     let slots = Slots::new(alloc, graph, plan.as_slice(), limit, keep_going)?;
     let marks = first_marks(alloc, plan.as_slice(), keep_going)?;
     let due = due_files(plan.as_slice());
     Ok(Begun { slots, marks, due })
 }
 
-/// Builds the graph over a store of records, by where the store has its files, which is kept so, and gives one mark for
+/// Builds the graph over a store of records, which was opened over it, and gives one mark for
 /// each file: one whose record is current over what it depends on is fresh, and the others are compiled, each once all
 /// that it depends on is made. At most `limit` children run at once, from 1 to 64. What a compiler gives is committed before the next start. After a refusal
 /// nothing more is started, but with `keep_going` all that doesn't depend on a refused file. After a fault nothing
@@ -78,12 +76,11 @@ pub fn build_marks<K: Records, D: Disk, P: Procs>(
     store: &mut K,
     disk: &mut D,
     procs: &mut P,
-    seats: &mut K::Seats,
     limit: u32,
     keep_going: bool,
-) -> Result<MarkList, BuildFault>
+) -> Result<MarkList, RunFault>
     requires limit { (1 ≤ limit) × (limit ≤ SLOT_LIMIT) }
-    requires seated { K.is_seated store.old graph.now seats.old }
+    requires over { K.is_over store.old graph.now }
     requires idle { P.running procs.old ≡ [] }
     requires usable { K.broken store.old ≡ false }
     requires in_step { D.tells → K.in_step store.old (D.moments disk.old).now }
@@ -121,9 +118,9 @@ pub fn build_marks<K: Records, D: Disk, P: Procs>(
             mut marks,
             due,
         },
-    ) = begin(alloc, graph, store, seats, limit, keep_going)
+    ) = begin(alloc, graph, store, limit, keep_going)
     else {
-        return Err(BuildFault::NoMemory);
+        return Err(RunFault::NoMemory);
     };
     procs.expects(due);
     let mut noted = None;
@@ -131,7 +128,7 @@ pub fn build_marks<K: Records, D: Disk, P: Procs>(
     loop {
         match slots.next() {
             BuildStep::Check(at) => {
-                let fresh = check_one(graph, at, store, seats, &mut slots, &mut marks);
+                let fresh = check_one(graph, at, store, &mut slots, &mut marks);
                 if fresh {
                     procs.spares();
                 }
@@ -142,7 +139,6 @@ pub fn build_marks<K: Records, D: Disk, P: Procs>(
                     graph,
                     at,
                     store,
-                    seats,
                     &mut gathered,
                     &mut slots,
                     &mut noted,
@@ -150,7 +146,7 @@ pub fn build_marks<K: Records, D: Disk, P: Procs>(
                 )
             }
             BuildStep::Run(Step::Wait) => end_one(
-                alloc, graph, &mut slots, &mut marks, &mut noted, store, seats, disk, procs,
+                alloc, graph, &mut slots, &mut marks, &mut noted, store, disk, procs,
             ),
             BuildStep::Run(Step::Finished) => break,
         }

@@ -12,9 +12,9 @@ ghost use Rattle.run_spec.specs.Commits.{record_at};
 ghost use Rattle.build_loop.specs.Commits.{latest_after, HoldsFirst};
 ghost use Rattle.build_loop.specs.Faults.{CountsCommit, is_disk_failed};
 
-use crate::faults::BuildFault;
 use base::{ARTEFACT_LIMIT, DiskFailed, FILE_LIMIT, Graph, NoMemory, Text};
 use outside::{Disk, Records};
+use run_steps::RunFault;
 use std::alloc::Global;
 
 /// Commits a record that is ready.
@@ -22,11 +22,10 @@ fn commit_ready<K: Records, D: Disk>(
     store: &mut K,
     disk: &mut D,
     prepared: K::Prepared,
-    seats: &mut K::Seats,
-) -> Result<(), BuildFault>
+) -> Result<(), RunFault>
     requires usable { K.broken store.old ≡ false }
     requires ready { K.is_ready store.old prepared }
-    requires seated { (graph : List Entry) × K.is_seated store.old graph seats.old
+    requires over { (graph : List Entry) × K.is_over store.old graph
         × (K.position_of prepared < length graph) }
     requires in_step { D.tells → K.in_step store.old (D.moments disk.old).now }
     ensures latest { (name : FileName) → K.latest_of store.new name ≡
@@ -38,18 +37,18 @@ fn commit_ready<K: Records, D: Disk>(
         (D.moments disk.new) }
     ensures in_step { D.tells →
         OnFalse (K.broken store.new) (K.in_step store.new (D.moments disk.new).now) }
-    ensures seats { (graph : List Entry) (entry : Entry) → IsGraph graph →
-        K.is_seated store.old graph seats.old →
+    ensures over { (graph : List Entry) (entry : Entry) → IsGraph graph →
+        K.is_over store.old graph →
         slice_get graph (K.position_of prepared) ≡ Some entry →
         entry.name ≡ (K.record_of store.old prepared).asked.name →
-        K.is_seated store.new graph seats.new }
+        K.is_over store.new graph }
     ensures broken { K.broken store.new ≡ is_disk_failed result }
     ensures cause { CountsCommit result (D.failed_disk_calls disk.old)
         (D.failed_disk_calls disk.new) }
 {
-    match store.commit(disk, prepared, seats) {
+    match store.commit(disk, prepared) {
         Ok(()) => Ok(()),
-        Err(DiskFailed) => Err(BuildFault::DiskFailed),
+        Err(DiskFailed) => Err(RunFault::DiskFailed),
     }
 }
 
@@ -60,11 +59,10 @@ pub(crate) fn commit_made<K: Records, D: Disk>(
     at: u32,
     artefact: &Text,
     store: &mut K,
-    seats: &mut K::Seats,
     disk: &mut D,
-) -> Result<(), BuildFault>
+) -> Result<(), RunFault>
     requires position { at < length graph.now }
-    requires seated { K.is_seated store.old graph.now seats.old }
+    requires over { K.is_over store.old graph.now }
     requires artefact { length artefact.now ≤ ARTEFACT_LIMIT }
     requires built { All (HasLatest (K.latest_of store.old) graph.now) (deps_at graph.now at) }
     requires usable { K.broken store.old ≡ false }
@@ -81,14 +79,14 @@ pub(crate) fn commit_made<K: Records, D: Disk>(
         (D.moments disk.old) (D.moments disk.new) }
     ensures in_step { D.tells →
         OnFalse (K.broken store.new) (K.in_step store.new (D.moments disk.new).now) }
-    ensures seated { K.is_seated store.new graph.now seats.new }
+    ensures over { K.is_over store.new graph.now }
     ensures broken { K.broken store.new ≡ is_disk_failed result }
     ensures cause { CountsCommit result (D.failed_disk_calls disk.old)
         (D.failed_disk_calls disk.new) }
 {
     prove!(graph.len() <= FILE_LIMIT as u64);
-    match store.prepare(alloc, seats, graph, at, artefact) {
-        Ok(prepared) => commit_ready(store, disk, prepared, seats),
-        Err(NoMemory) => Err(BuildFault::NoMemory),
+    match store.prepare(alloc, graph, at, artefact) {
+        Ok(prepared) => commit_ready(store, disk, prepared),
+        Err(NoMemory) => Err(RunFault::NoMemory),
     }
 }

@@ -19,21 +19,22 @@ ghost use Rattle.build_slots.specs.Machines.{IsMachineOf, next_of, tickets_of, f
 ghost use Rattle.run_spec.specs.Commits.{commits};
 ghost use Rattle.build_loop.specs.Commits.{HoldsFirst};
 ghost use Rattle.build_loop.specs.Requests.{AreRecorded, KeepsFirst};
-ghost use Rattle.build_loop.specs.Faults.{CountsBy, noted_with, is_of_disk};
+ghost use Rattle.run_steps.specs.Faults.{CountsBy, noted_with};
+ghost use Rattle.build_loop.specs.Faults.{is_of_disk};
 ghost use Rattle.build_loop.specs.UnderWay.{Origin, BuildState, with_machine, work_from, IsUnderWay, IsGoing, TakesEnd, Goes};
 
 use crate::commits::commit_made;
-use crate::faults::BuildFault;
-use crate::notes::{is_committing, note};
+use crate::notes::is_committing;
 use crate::starts::halt;
 use base::{Exit, Graph};
 use build_slots::Slots;
 use outside::{Disk, Ended, Procs, Records, WaitFault};
 use run_spec::Mark;
+use run_steps::{RunFault, note};
 use std::alloc::Global;
 
 /// The end of a child is lost: nothing more is started.
-fn lose(slots: &mut Slots, noted: &mut Option<BuildFault>, ticket: u64, fault: BuildFault)
+fn lose(slots: &mut Slots, noted: &mut Option<RunFault>, ticket: u64, fault: RunFault)
     requires runs { Contains (tickets_of slots.old) ticket }
     requires kind { is_of_disk fault ≡ false }
     ensures noted { noted.new ≡ Some (noted_with noted.old fault) }
@@ -51,7 +52,7 @@ fn lose(slots: &mut Slots, noted: &mut Option<BuildFault>, ticket: u64, fault: B
 }
 
 /// A wait gave no exit: its child is lost.
-fn lose_by(slots: &mut Slots, noted: &mut Option<BuildFault>, fault: WaitFault)
+fn lose_by(slots: &mut Slots, noted: &mut Option<RunFault>, fault: WaitFault)
     requires { Contains (tickets_of slots.old) (ended_ticket (Err fault)) }
     ensures files { files_of slots.new ≡ files_of slots.old }
     ensures tickets { tickets_of slots.new ≡ without (ended_ticket (Err fault))
@@ -69,8 +70,8 @@ fn lose_by(slots: &mut Slots, noted: &mut Option<BuildFault>, fault: WaitFault)
         (record now { children = record now.children { losses = losses } }) }
 {
     match fault {
-        WaitFault::NoMemory { ticket } => lose(slots, noted, ticket, BuildFault::NoMemory),
-        WaitFault::Lost { ticket } => lose(slots, noted, ticket, BuildFault::ChildLost),
+        WaitFault::NoMemory { ticket } => lose(slots, noted, ticket, RunFault::NoMemory),
+        WaitFault::Lost { ticket } => lose(slots, noted, ticket, RunFault::ChildLost),
     }
 }
 
@@ -83,12 +84,11 @@ fn take_exit<K: Records, D: Disk>(
     exit: Exit,
     slots: &mut Slots,
     marks: &mut Vec<Mark>,
-    noted: &mut Option<BuildFault>,
+    noted: &mut Option<RunFault>,
     store: &mut K,
-    seats: &mut K::Seats,
     disk: &mut D,
 )
-    requires seated { K.is_seated store.old graph.now seats.old }
+    requires over { K.is_over store.old graph.now }
     requires runs { Contains (tickets_of slots.old) ticket }
     requires step { next_of slots.old ≡ Run Wait }
     requires size { FitsExit exit }
@@ -108,7 +108,7 @@ fn take_exit<K: Records, D: Disk>(
     ensures nearer { to_come slots.new < to_come slots.old }
     ensures in_step { D.tells →
         OnFalse (K.broken store.new) (K.in_step store.new (D.moments disk.new).now) }
-    ensures seated { K.is_seated store.new graph.now seats.new }
+    ensures over { K.is_over store.new graph.now }
     ensures keeps { (count : ℕ) → AreRecorded (K.latest_of store.old) graph.now count →
         KeepsFirst graph.now count (K.latest_of store.old) (K.latest_of store.new) }
     ensures runs { (job : Job) (core : Core) → IsMachineOf slots.old job core →
@@ -154,7 +154,7 @@ fn take_exit<K: Records, D: Disk>(
     if !is_committing(*noted, store.is_broken()) {
         return;
     }
-    match commit_made(alloc, graph, at, &output, store, seats, disk) {
+    match commit_made(alloc, graph, at, &output, store, disk) {
         Ok(()) => {}
         Err(fault) => halt(slots, noted, fault),
     }
@@ -166,13 +166,12 @@ pub(crate) fn end_one<K: Records, D: Disk, P: Procs>(
     graph: &Graph,
     slots: &mut Slots,
     marks: &mut Vec<Mark>,
-    noted: &mut Option<BuildFault>,
+    noted: &mut Option<RunFault>,
     store: &mut K,
-    seats: &mut K::Seats,
     disk: &mut D,
     procs: &mut P,
 )
-    requires seated { K.is_seated store.old graph.now seats.old }
+    requires over { K.is_over store.old graph.now }
     requires running { P.running procs.old ≡ tickets_of slots.old }
     requires some { 0 < length (tickets_of slots.old) }
     requires step { next_of slots.old ≡ Run Wait }
@@ -193,7 +192,7 @@ pub(crate) fn end_one<K: Records, D: Disk, P: Procs>(
     ensures nearer { to_come slots.new < to_come slots.old }
     ensures in_step { D.tells →
         OnFalse (K.broken store.new) (K.in_step store.new (D.moments disk.new).now) }
-    ensures seated { K.is_seated store.new graph.now seats.new }
+    ensures over { K.is_over store.new graph.now }
     ensures keeps { (count : ℕ) → AreRecorded (K.latest_of store.old) graph.now count →
         KeepsFirst graph.now count (K.latest_of store.old) (K.latest_of store.new) }
     ensures goes { (from : Origin) →
@@ -223,9 +222,7 @@ pub(crate) fn end_one<K: Records, D: Disk, P: Procs>(
 {
     match procs.wait_any(alloc) {
         Ok(Ended { ticket, exit }) => {
-            take_exit(
-                alloc, graph, ticket, exit, slots, marks, noted, store, seats, disk,
-            )
+            take_exit(alloc, graph, ticket, exit, slots, marks, noted, store, disk)
         }
         Err(fault) => lose_by(slots, noted, fault),
     }

@@ -6,11 +6,9 @@ mod builds;
 mod checks;
 mod commits;
 mod ends;
-mod faults;
 mod marks;
 mod notes;
 mod requests;
 mod starts;
 
 pub use builds::build_marks;
-pub use faults::BuildFault;

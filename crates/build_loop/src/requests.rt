@@ -42,16 +42,15 @@ fn add_lent<K: Records>(
     graph: &Graph,
     dep: u32,
     store: &K,
-    seats: &K::Seats,
 ) -> Result<(), NoMemory>
     requires position { dep < length graph.now }
-    requires seated { K.is_seated store.now graph.now seats.now }
+    requires over { K.is_over store.now graph.now }
     requires recorded { IsRecorded (K.latest_of store.now) graph.now dep }
     ensures { OnOk result (files.new ≡ files.old ++
         flat_map built_bytes (filter_map (lent_at (K.latest_of store.now) graph.now) (dep ∷ []))) }
 {
     let entry = graph.get(dep as u64);
-    match store.artefact_at(seats, graph, dep) {
+    match store.artefact_at(graph, dep) {
         Some(artefact) => files.add(&entry.name, artefact),
         None => unreachable!(),
     }
@@ -75,11 +74,10 @@ fn gathered_to<K: Records>(
     count: u32,
     graph: &Graph,
     store: &K,
-    seats: &K::Seats,
 ) -> Result<Gathered, NoMemory>
     requires more { gathered.count ≤ count }
     requires inside { count ≤ length graph.now }
-    requires seated { K.is_seated store.now graph.now seats.now }
+    requires over { K.is_over store.now graph.now }
     requires gathered { IsGathered (K.latest_of store.now) graph.now gathered }
     requires recorded { AreRecorded (K.latest_of store.now) graph.now count }
     ensures count { IfOk result (λ all. all.count ≡ count) }
@@ -90,7 +88,7 @@ fn gathered_to<K: Records>(
         mut files,
     } = gathered;
     for at in first..count {
-        add_lent(&mut files, graph, at, store, seats)?;
+        add_lent(&mut files, graph, at, store)?;
     }
     Ok(Gathered { count, files })
 }
@@ -109,18 +107,17 @@ fn gather<K: Records>(
     count: u32,
     graph: &Graph,
     store: &K,
-    seats: &K::Seats,
 ) -> Result<(), NoMemory>
     requires more { gathered.old.count ≤ count }
     requires inside { count ≤ length graph.now }
-    requires seated { K.is_seated store.now graph.now seats.now }
+    requires over { K.is_over store.now graph.now }
     requires gathered { IsGathered (K.latest_of store.now) graph.now gathered.old }
     requires recorded { AreRecorded (K.latest_of store.now) graph.now count }
     ensures count { OnOk result (gathered.new.count ≡ count) }
     ensures gathered { IsGathered (K.latest_of store.now) graph.now gathered.new }
 {
     let before = replace(gathered, Gathered::new(alloc));
-    let all = gathered_to(before, count, graph, store, seats)?;
+    let all = gathered_to(before, count, graph, store)?;
     keep(gathered, all);
     Ok(())
 }
@@ -131,16 +128,15 @@ fn add_each<K: Records>(
     deps: &[u32],
     graph: &Graph,
     store: &K,
-    seats: &K::Seats,
 ) -> Result<(), NoMemory>
     requires positions { All (λ dep. dep < length graph.now) deps.now }
-    requires seated { K.is_seated store.now graph.now seats.now }
+    requires over { K.is_over store.now graph.now }
     requires recorded { All (IsRecorded (K.latest_of store.now) graph.now) deps.now }
     ensures { OnOk result (files.new ≡ files.old ++
         flat_map built_bytes (filter_map (lent_at (K.latest_of store.now) graph.now) deps.now)) }
 {
     for dep in deps {
-        add_lent(files, graph, *dep, store, seats)?;
+        add_lent(files, graph, *dep, store)?;
     }
     Ok(())
 }
@@ -152,12 +148,11 @@ fn add_deps<K: Records>(
     deps: &[u32],
     graph: &Graph,
     store: &K,
-    seats: &K::Seats,
     gathered: &mut Gathered,
 ) -> Result<(), NoMemory>
     requires positions { All (λ dep. dep < length graph.now) deps.now }
     requires inside { length deps.now ≤ length graph.now }
-    requires seated { K.is_seated store.now graph.now seats.now }
+    requires over { K.is_over store.now graph.now }
     requires recorded { All (IsRecorded (K.latest_of store.now) graph.now) deps.now }
     requires gathered { IsGathered (K.latest_of store.now) graph.now gathered.old }
     ensures input { OnOk result (files.new ≡ files.old ++
@@ -167,12 +162,12 @@ fn add_deps<K: Records>(
     prove!(graph.len() <= FILE_LIMIT as u64);
     let count = deps.len() as u32;
     if gathered.count > count {
-        return add_each(files, deps, graph, store, seats);
+        return add_each(files, deps, graph, store);
     }
     if !are_first(deps) {
-        return add_each(files, deps, graph, store, seats);
+        return add_each(files, deps, graph, store);
     }
-    gather(alloc, gathered, count, graph, store, seats)?;
+    gather(alloc, gathered, count, graph, store)?;
     files.add_all(&gathered.files)
 }
 
@@ -182,11 +177,10 @@ pub(crate) fn request_of<K: Records>(
     graph: &Graph,
     at: u32,
     store: &K,
-    seats: &K::Seats,
     gathered: &mut Gathered,
 ) -> Result<Request, NoMemory>
     requires position { at < length graph.now }
-    requires seated { K.is_seated store.now graph.now seats.now }
+    requires over { K.is_over store.now graph.now }
     requires recorded { All (IsRecorded (K.latest_of store.now) graph.now) (deps_at graph.now at) }
     requires gathered { IsGathered (K.latest_of store.now) graph.now gathered.old }
     ensures request { IfOk result
@@ -196,14 +190,6 @@ pub(crate) fn request_of<K: Records>(
     let entry = graph.get(at as u64);
     let deps = entry.deps.as_slice();
     let mut writer = RequestWriter::new(alloc, entry, deps.len() as u32)?;
-    add_deps(
-        alloc,
-        &mut writer.input,
-        deps,
-        graph,
-        store,
-        seats,
-        gathered,
-    )?;
+    add_deps(alloc, &mut writer.input, deps, graph, store, gathered)?;
     Ok(writer.finish())
 }

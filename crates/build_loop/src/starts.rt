@@ -15,20 +15,19 @@ ghost use Rattle.run_steps.specs.declared.step.Step.TheVariants.{Start};
 ghost use Rattle.build_slots.specs.declared.step.BuildStep.TheVariants.{Run};
 ghost use Rattle.build_slots.specs.Machines.{IsMachineOf, is_checked, is_stopped_in, next_of, tickets_of, files_of, to_come};
 ghost use Rattle.build_loop.specs.Requests.{lent_request, IsGathered};
-ghost use Rattle.build_loop.specs.Faults.{CountsBy, CountsStart, noted_with};
+ghost use Rattle.run_steps.specs.Faults.{CountsBy, CountsStart, noted_with};
 ghost use Rattle.build_loop.specs.UnderWay.{Origin, BuildState, with_machine, work_from, IsUnderWay, IsJournalled, GoesOn};
 ghost use Rattle.run_steps.specs.Steps.{halted_if};
 
-use crate::faults::BuildFault;
-use crate::notes::note;
 use crate::requests::{Gathered, request_of};
 use base::Graph;
 use build_slots::Slots;
 use outside::{Procs, Records, StartFault};
+use run_steps::{RunFault, note};
 use std::alloc::Global;
 
 /// Notes a fault, and nothing more is started.
-pub(crate) fn halt(slots: &mut Slots, noted: &mut Option<BuildFault>, fault: BuildFault)
+pub(crate) fn halt(slots: &mut Slots, noted: &mut Option<RunFault>, fault: RunFault)
     ensures noted { noted.new ≡ Some (noted_with noted.old fault) }
     ensures in_step { (job : Job) (core : Core) (halts : Bool) →
         IsMachineOf slots.old job (halted_if halts core) →
@@ -51,12 +50,11 @@ fn try_start<K: Records, P: Procs>(
     graph: &Graph,
     at: u32,
     store: &K,
-    seats: &K::Seats,
     gathered: &mut Gathered,
     procs: &mut P,
-) -> Result<u64, BuildFault>
+) -> Result<u64, RunFault>
     requires position { at < length graph.now }
-    requires seated { K.is_seated store.now graph.now seats.now }
+    requires over { K.is_over store.now graph.now }
     requires recorded { All (IsRecorded (K.latest_of store.now) graph.now) (deps_at graph.now at) }
     requires gathered { IsGathered (K.latest_of store.now) graph.now gathered.old }
     ensures gathered { IsGathered (K.latest_of store.now) graph.now gathered.new }
@@ -72,11 +70,11 @@ fn try_start<K: Records, P: Procs>(
     ensures starts { CountsStart result (P.failed_starts procs.old) (P.failed_starts procs.new) }
     ensures losses { P.lost_children procs.new ≡ P.lost_children procs.old }
 {
-    let request = request_of(alloc, graph, at, store, seats, gathered)?;
+    let request = request_of(alloc, graph, at, store, gathered)?;
     match procs.start(alloc, &request) {
         Ok(ticket) => Ok(ticket),
-        Err(StartFault::NoMemory) => Err(BuildFault::NoMemory),
-        Err(StartFault::Failed) => Err(BuildFault::StartFailed),
+        Err(StartFault::NoMemory) => Err(RunFault::NoMemory),
+        Err(StartFault::Failed) => Err(RunFault::StartFailed),
     }
 }
 
@@ -86,14 +84,13 @@ pub(crate) fn start_one<K: Records, P: Procs>(
     graph: &Graph,
     at: u32,
     store: &K,
-    seats: &K::Seats,
     gathered: &mut Gathered,
     slots: &mut Slots,
-    noted: &mut Option<BuildFault>,
+    noted: &mut Option<RunFault>,
     procs: &mut P,
 )
     requires position { at < length graph.now }
-    requires seated { K.is_seated store.now graph.now seats.now }
+    requires over { K.is_over store.now graph.now }
     requires recorded { All (IsRecorded (K.latest_of store.now) graph.now) (deps_at graph.now at) }
     requires gathered { IsGathered (K.latest_of store.now) graph.now gathered.old }
     requires step { next_of slots.old ≡ Run (Start at) }
@@ -124,7 +121,7 @@ pub(crate) fn start_one<K: Records, P: Procs>(
         CountsBy noted.new broken first
         (record { children = child_counts P.Procs procs.new; disks = disks }) }
 {
-    match try_start(alloc, graph, at, store, seats, gathered, procs) {
+    match try_start(alloc, graph, at, store, gathered, procs) {
         Ok(ticket) => slots.started(at, ticket),
         Err(fault) => halt(slots, noted, fault),
     }

@@ -49,9 +49,9 @@ fn are_fresh(needs: &[Need], deps: &[u32]) -> bool
 }
 
 /// What is to be done with one more file.
-fn need_of<K: Records>(graph: &Graph, store: &K, seats: &K::Seats, needs: &[Need], at: u32) -> Need
+fn need_of<K: Records>(graph: &Graph, store: &K, needs: &[Need], at: u32) -> Need
     requires at { at < length graph.now }
-    requires seated { K.is_seated store.now graph.now seats.now }
+    requires over { K.is_over store.now graph.now }
     requires planned { ArePlannedTo graph.now (IsRecorded (K.latest_of store.now) graph.now)
         needs.now at }
     ensures later { is_later result ≡
@@ -62,7 +62,7 @@ fn need_of<K: Records>(graph: &Graph, store: &K, seats: &K::Seats, needs: &[Need
     if !are_fresh(needs, graph.get(at as u64).deps.as_slice()) {
         return Need::Later;
     }
-    if store.fits(seats, graph, at) {
+    if store.fits(graph, at) {
         Need::Fresh
     } else {
         Need::Stale
@@ -71,13 +71,8 @@ fn need_of<K: Records>(graph: &Graph, store: &K, seats: &K::Seats, needs: &[Need
 
 /// The plan of a build: a file that depends on one that isn't fresh is checked later, and of the others those are fresh
 /// whose latest record has what would be asked now. The store is asked of no file that is checked later.
-pub fn plan<K: Records>(
-    alloc: Global,
-    graph: &Graph,
-    store: &K,
-    seats: &K::Seats,
-) -> Result<Needs, NoMemory>
-    requires { K.is_seated store.now graph.now seats.now }
+pub fn plan<K: Records>(alloc: Global, graph: &Graph, store: &K) -> Result<Needs, NoMemory>
+    requires { K.is_over store.now graph.now }
     ensures { IfOk result
         (ArePlanned graph.now (IsRecorded (K.latest_of store.now) graph.now)) }
 {
@@ -85,7 +80,7 @@ pub fn plan<K: Records>(
     prove!(graph.len() <= FILE_LIMIT as u64);
     let mut needs = Vec::new(alloc);
     for at in 0..graph.len() as u32 {
-        let need = need_of(graph, store, seats, needs.as_slice(), at);
+        let need = need_of(graph, store, needs.as_slice(), at);
         needs.push(need)?;
     }
     Ok(Needs::from_vec(needs))

@@ -12,7 +12,7 @@ use Rattle.base_outcomes.specs.declared.outcome.Outcome.TheVariants as outcome
 use Rattle.run_spec.specs.ChildJournal.{Work}
 use Rattle.run_spec.specs.JournalParts.{compile_part, test_part}
 use Rattle.run_spec.specs.Marks.{is_compiled, marks_of}
-use Rattle.build_loop.specs.declared.faults.BuildFault.{BuildFault}
+use Rattle.run_steps.specs.declared.fault.RunFault.{RunFault}
 use Rattle.build_loop.specs.Ran.{is_made}
 use Rattle.test_spec.specs.declared.ends.RunEnd.{RunEnd}
 use Rattle.test_spec.specs.Verdicts.{is_passed_verdict}
@@ -37,7 +37,7 @@ use Rattle.generated_laws.specs.Counted.{HavePassed, passed_said}
 use Rattle.generated_laws.proofs.BothBuilds as builds
 use Rattle.generated_laws.proofs.PassedCases.{total_is, passed_is, done}
 
-abbrev pub gives : GeneratedSaid → Result GeneratedSaid BuildFault
+abbrev pub gives : GeneratedSaid → Result GeneratedSaid RunFault
 gives said = Ok said
 
 module _ (answer : Request → Exit) (options : GenerateOptions) (read : ReadProject) (makes : MakesAll answer read.graph) (changed : SourceReading) (said : GeneratedSaid) (events : List Event)

@@ -9,7 +9,7 @@ use Rattle.outside.specs.Disks.{DiskState, Moments, IsImage, IsSound, reads_of}
 use Rattle.run_spec.specs.ChildJournal.{Work}
 use Rattle.run_spec.proofs.Parts.{build_parts}
 use Rattle.run_histories.specs.Histories.{Order}
-use Rattle.build_loop.specs.declared.faults.BuildFault.{BuildFault}
+use Rattle.run_steps.specs.declared.fault.RunFault.{RunFault}
 use Rattle.run_build.specs.Building.{BuildsOver}
 use Rattle.run_build.specs.Orders.{order_by}
 use Rattle.store_requests.specs.Stored.{requests_in}
@@ -29,7 +29,7 @@ module _ (answer : Request → Exit) (options : GenerateOptions) (graph : List E
   abbrev work : Work
   work = first_work options graph
 
-  abbrev Over : Result (List Mark) BuildFault → Type 0
+  abbrev Over : Result (List Mark) RunFault → Type 0
   Over result = BuildsOver requests_in answer (first_order options graph) result failed old new events
 
   pub first_ended : IsSound new.now → (marks : List Mark) → Over (Ok marks) → RanFirst answer work (Ok marks) new.now events
@@ -40,7 +40,7 @@ module _ (answer : Request → Exit) (options : GenerateOptions) (graph : List E
     records = over.emptied refl (reads_of new.now) (readable new.now sound);
   }
 
-  pub first_faulted : (why other : BuildFault) → Over (Err why) → RanFirst answer work (Err other) new.now events
+  pub first_faulted : (why other : RunFault) → Over (Err why) → RanFirst answer work (Err other) new.now events
   first_faulted why other over = record {
     built = record { graph = λ some. over.graph_form; whole_graph = tt; lawful = over.lawful; answered = over.answered; ended = tt };
     compilers = build_parts work events over.lawful;

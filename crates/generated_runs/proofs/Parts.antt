@@ -16,7 +16,7 @@ use Rattle.run_spec.specs.JournalParts.{compile_part}
 use Rattle.run_spec.specs.Marks.{is_compiled, marks_of}
 use Rattle.run_spec.proofs.Journal.{since-added}
 use Rattle.run_spec.proofs.Prefixes.{lawful_none}
-use Rattle.build_loop.specs.declared.faults.BuildFault.{BuildFault}
+use Rattle.run_steps.specs.declared.fault.RunFault.{RunFault}
 use Rattle.build_loop.specs.Ran.{is_made}
 use Rattle.test_journal.specs.TestJournal.{TestSetting, LawfulTests, test_moves, AreTestsRequested}
 use Rattle.run_tested.specs.declared.testing.Tested.{Tested}
@@ -29,13 +29,13 @@ use Rattle.generated_runs.specs.Said.{marks_said, tested_said, second_said, gene
 use Rattle.generated_runs.specs.Ran.{RanBuild, RanFirst, RanSecond, RanTested, RanEdited, RanGenerated, IsRightBuild, IsRightSecond}
 use Rattle.generated_runs.proofs.Rights.{nothing_right, nothing_tested, right_first, right_second}
 
-abbrev gives : GeneratedSaid → Result GeneratedSaid BuildFault
+abbrev gives : GeneratedSaid → Result GeneratedSaid RunFault
 gives said = Ok said
 
-abbrev fails : BuildFault → Result GeneratedSaid BuildFault
+abbrev fails : RunFault → Result GeneratedSaid RunFault
 fails why = Err why
 
-abbrev tests : Tested → Result Tested BuildFault
+abbrev tests : Tested → Result Tested RunFault
 tests tested = Ok tested
 
 -- a journal that grew twice
@@ -53,7 +53,7 @@ nothing_lawful : (setting : TestSetting) → LawfulTests setting []
 unfolding LawfulMoves test_moves AreTestsRequested EachAfter
 nothing_lawful setting = record { moves = tt; requests = tt; tickets = tt }
 
-nothing_ran : (answer : Request → Exit) (work : Work) (setting : List Event → TestSetting) (why : BuildFault) → RanSecond answer work setting (OnOk (fails why)) []
+nothing_ran : (answer : Request → Exit) (work : Work) (setting : List Event → TestSetting) (why : RunFault) → RanSecond answer work setting (OnOk (fails why)) []
 unfolding EachAfter
 nothing_ran answer work setting why = record {
   parted = refl;
@@ -68,7 +68,7 @@ nothing_ran answer work setting why = record {
 -- ## The second part
 
 module _ (answer : Request → Exit) (options : GenerateOptions) (records : List Record) (first : ℕ) where
-  pub edited_fault : (edited : SourceReading) (why : BuildFault) (events : List Event) → events ≡ [] → RanEdited answer options edited records first (Err why) events
+  pub edited_fault : (edited : SourceReading) (why : RunFault) (events : List Event) → events ≡ [] → RanEdited answer options edited records first (Err why) events
   edited_fault edited why events none = record {
     ran = λ read is. subst (λ (l : List Event). RanSecond answer (second_work options records read.graph) (setting_of options read (second_work options records read.graph)) (OnOk (fails why)) l) (sym none) (nothing_ran answer (second_work options records read.graph) (setting_of options read (second_work options records read.graph)) why);
     unread = λ h. none;
@@ -85,7 +85,7 @@ module _ (answer : Request → Exit) (options : GenerateOptions) (records : List
     work = second_work options records read.graph
 
     -- by another fault, or none, after the build and its tests
-    weaker : (result : Result Tested BuildFault) (why : BuildFault) → RanSecond answer work (setting_of options read work) (OnOk result) events → RanSecond answer work (setting_of options read work) (OnOk (fails why)) events
+    weaker : (result : Result Tested RunFault) (why : RunFault) → RanSecond answer work (setting_of options read work) (OnOk result) events → RanSecond answer work (setting_of options read work) (OnOk (fails why)) events
     weaker result why ran = record {
       parted = ran.parted;
       graph = ran.graph;
@@ -107,11 +107,11 @@ module _ (answer : Request → Exit) (options : GenerateOptions) (records : List
       all_tested = ran.all_tested;
     }
 
-    moved : (result : Result GeneratedSaid BuildFault) → RanSecond answer work (setting_of options read work) (OnOk result) events → (other : ReadProject) → Found read ≡ Found other →
+    moved : (result : Result GeneratedSaid RunFault) → RanSecond answer work (setting_of options read work) (OnOk result) events → (other : ReadProject) → Found read ≡ Found other →
         RanSecond answer (second_work options records other.graph) (setting_of options other (second_work options records other.graph)) (OnOk result) events
     moved result ran other is = subst (λ (r : ReadProject). RanSecond answer (second_work options records r.graph) (setting_of options r (second_work options records r.graph)) (OnOk result) events) (same_read read other is) ran
 
-    pub edited_faulted : (result : Result Tested BuildFault) (why : BuildFault) → RanTested answer work options read result events → RanEdited answer options (Found read) records first (Err why) events
+    pub edited_faulted : (result : Result Tested RunFault) (why : RunFault) → RanTested answer work options read result events → RanEdited answer options (Found read) records first (Err why) events
     edited_faulted result why ran = record {
       ran = λ other is. moved (Err why) (weaker result why ran.ran) other is;
       unread = λ none. absurd (none read refl);
@@ -131,7 +131,7 @@ module _ (answer : Request → Exit) (options : GenerateOptions) (records : List
 
 module _ (answer : Request → Exit) (options : GenerateOptions) (edited : SourceReading) where
   -- nothing was started, since the sources gave nothing to build, or memory was out before
-  pub all_fault : (reading : SourceReading) (why : BuildFault) (events : List Event) → events ≡ [] → RanGenerated answer options reading edited (Err why) events
+  pub all_fault : (reading : SourceReading) (why : RunFault) (events : List Event) → events ≡ [] → RanGenerated answer options reading edited (Err why) events
   unfolding EachAfter
   all_fault reading why events none = record {
     first = [];
@@ -169,11 +169,11 @@ module _ (answer : Request → Exit) (options : GenerateOptions) (edited : Sourc
     by_read : (P : ReadProject → Type 0) → P read → (other : ReadProject) → Found read ≡ Found other → P other
     by_read P p other is = subst P (same_read read other is) p
 
-    faulted : (result : Result (List Mark) BuildFault) (why : BuildFault) (disk : DiskState) (events : List Event) → RanFirst answer built_first result disk events → RanBuild answer built_first (OnOk (fails why)) events
+    faulted : (result : Result (List Mark) RunFault) (why : RunFault) (disk : DiskState) (events : List Event) → RanFirst answer built_first result disk events → RanBuild answer built_first (OnOk (fails why)) events
     faulted result why disk events ran = record { graph = ran.built.graph; whole_graph = tt; lawful = ran.built.lawful; answered = ran.built.answered; ended = tt }
 
     -- the first build had a fault, or what was to be said of it found no memory
-    pub first_fault : (result : Result (List Mark) BuildFault) (why : BuildFault) (disk : DiskState) (events : List Event) → RanFirst answer built_first result disk events →
+    pub first_fault : (result : Result (List Mark) RunFault) (why : RunFault) (disk : DiskState) (events : List Event) → RanFirst answer built_first result disk events →
         RanGenerated answer options (Found read) edited (Err why) events
     first_fault result why disk events ran = record {
       first = events;
@@ -190,11 +190,11 @@ module _ (answer : Request → Exit) (options : GenerateOptions) (edited : Sourc
     }
 
     module _ (marks : List Mark) (disk : DiskState) (events : List Event) (ran : RanFirst answer built_first (Ok marks) disk events) where
-      on_any : {X : Type 0} → X → (r : Result GeneratedSaid BuildFault) → OnOk r X
+      on_any : {X : Type 0} → X → (r : Result GeneratedSaid RunFault) → OnOk r X
       on_any x (Ok said) = x
       on_any x (Err why) = tt
 
-      ended : (r : Result GeneratedSaid BuildFault) → RanBuild answer built_first (OnOk r) events
+      ended : (r : Result GeneratedSaid RunFault) → RanBuild answer built_first (OnOk r) events
       ended r = record { graph = ran.built.graph; whole_graph = on_any ran.built.whole_graph r; lawful = ran.built.lawful; answered = ran.built.answered; ended = on_any ran.built.ended r }
 
       -- a file isn't made
@@ -215,7 +215,7 @@ module _ (answer : Request → Exit) (options : GenerateOptions) (edited : Sourc
       }
 
       -- all are made, and the second part follows
-      pub both_ran : (result : Result GeneratedSaid BuildFault) (later all : List Event) → list_all is_made marks ≡ true → all ≡ events ++ later →
+      pub both_ran : (result : Result GeneratedSaid RunFault) (later all : List Event) → list_all is_made marks ≡ true → all ≡ events ++ later →
           RanEdited answer options edited (first_records options read.graph events) (count_by is_compiled marks) result later → RanGenerated answer options (Found read) edited result all
       both_ran result later all made parted next = record {
         first = events;
@@ -234,7 +234,7 @@ module _ (answer : Request → Exit) (options : GenerateOptions) (edited : Sourc
         all_made : list_all is_made (marks_of built_first events) ≡ true
         all_made = ap (list_all is_made) (sym ran.marks) ∙ made
 
-        both_says : (r : Result GeneratedSaid BuildFault) → IfOk r (λ said. said ≡ second_said options (count_by is_compiled marks) (first_records options read.graph events) edited later) → IfOk r (λ said. said ≡ generated_said options (Found read) edited events later)
+        both_says : (r : Result GeneratedSaid RunFault) → IfOk r (λ said. said ≡ second_said options (count_by is_compiled marks) (first_records options read.graph events) edited later) → IfOk r (λ said. said ≡ generated_said options (Found read) edited events later)
         both_says (Err why) says = tt
         both_says (Ok said) says =
             says

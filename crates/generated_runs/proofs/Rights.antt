@@ -21,7 +21,7 @@ use Rattle.run_laws.proofs.CleanCommits.{commits_true}
 use Rattle.run_laws.proofs.CleanSettled.{request_clean}
 use Rattle.run_laws.proofs.JournalSettled.{asked, all_started, all_steady}
 use Rattle.run_laws.proofs.TrueRecords.{records_clean, All-latest}
-use Rattle.build_loop.specs.declared.faults.BuildFault.{BuildFault}
+use Rattle.run_steps.specs.declared.fault.RunFault.{RunFault}
 use Rattle.build_loop.specs.Ran.{is_made}
 use Rattle.test_journal.specs.TestJournal.{LawfulTests}
 use Rattle.run_tested_laws.proofs.CleanLibraries.{built_clean}
@@ -34,9 +34,9 @@ use Rattle.generated_runs.specs.Sources.{no_record, first_work, first_records, s
 use Rattle.generated_runs.specs.Ran.{RanBuild, RanSecond, IsRightBuild, IsRightSecond}
 
 abbrev Said : Type 0
-Said = Result GeneratedSaid BuildFault
+Said = Result GeneratedSaid RunFault
 
-abbrev fails : BuildFault → Said
+abbrev fails : RunFault → Said
 fails why = Err why
 
 nothing_after : (before rest : List Event) (event : Event) → [] ≡ before ++ event ∷ rest → ⊥
@@ -63,14 +63,14 @@ right_over answer work r events ran clean = record {
 }
 
 -- nothing was started
-pub nothing_right : (answer : Request → Exit) (work : Work) (why : BuildFault) → IsRightBuild answer work (OnOk (fails why)) []
+pub nothing_right : (answer : Request → Exit) (work : Work) (why : RunFault) → IsRightBuild answer work (OnOk (fails why)) []
 nothing_right answer work why = record {
   asked = λ before rest ticket request is. absurd (nothing_after before rest (Started ticket request) is);
   started = tt;
   steady = tt;
 }
 
-pub nothing_tested : (answer : Request → Exit) (options : GenerateOptions) (work : Work) (read : ReadProject) (why : BuildFault) → IsRightSecond answer options work read (OnOk (fails why)) []
+pub nothing_tested : (answer : Request → Exit) (options : GenerateOptions) (work : Work) (read : ReadProject) (why : RunFault) → IsRightSecond answer options work read (OnOk (fails why)) []
 nothing_tested answer options work read why = record {
   build = nothing_right answer work why;
   tests = lawful_right answer (second_order options read.graph) (plan_of read) [] (no_tests (clean_setting answer (second_order options read.graph) (plan_of read)));

@@ -13,7 +13,7 @@ use Rattle.run_spec.specs.ChildJournal.{Work, Answered, IsWhole}
 use Rattle.base.specs.Graphs.{IsGraph}
 use Rattle.run_spec.specs.JournalParts.{compile_part, test_part}
 use Rattle.run_spec.specs.Marks.{marks_of}
-use Rattle.build_loop.specs.declared.faults.BuildFault.{BuildFault}
+use Rattle.run_steps.specs.declared.fault.RunFault.{RunFault}
 use Rattle.build_loop.specs.Ran.{is_made}
 use Rattle.test_spec.specs.declared.ends.TestEnd.{TestEnd}
 use Rattle.test_spec.specs.declared.ends.RunEnd.{RunEnd}
@@ -37,10 +37,10 @@ whole_if setting made None events says is = absurd (false≢true (sym says ∙ i
 whole_if setting made (Some end) events says is = says.1
 
 -- the ends of such a run
-abbrev gives : Tested → Result Tested BuildFault
+abbrev gives : Tested → Result Tested RunFault
 gives tested = Ok tested
 
-abbrev fails : BuildFault → Result Tested BuildFault
+abbrev fails : RunFault → Result Tested RunFault
 fails why = Err why
 
 module _ (answer : Request → Exit) (options : GenerateOptions) (read : ReadProject) (failed : Bool) (old new : Moments) (events : List Event) where
@@ -50,10 +50,10 @@ module _ (answer : Request → Exit) (options : GenerateOptions) (read : ReadPro
   abbrev setting : List Event → TestSetting
   setting compiled = setting_of options read work compiled
 
-  abbrev Over : Result Tested BuildFault → Type 0
+  abbrev Over : Result Tested RunFault → Type 0
   Over result = TestsOver requests_in answer (second_order options read.graph) (plan_of read) result failed old new events
 
-  module _ (result : Result Tested BuildFault) (over : Over result) where
+  module _ (result : Result Tested RunFault) (over : Over result) where
     moved : (P : List Event → List Event → Type 0) → P over.compiled over.tests → P (compile_part events) (test_part events)
     moved P p = subst (P (compile_part events)) (sym over.simulators) (subst (λ (l : List Event). P l over.tests) (sym over.compilers) p)
 
@@ -71,8 +71,8 @@ module _ (answer : Request → Exit) (options : GenerateOptions) (read : ReadPro
   pub tested_ended : (tested : Tested) → Over (Ok tested) → RanTested answer work options read (Ok tested) events
   tested_ended tested over =
       let marked : tested.marks ≡ marks_of work over.compiled =
-      subst (λ (r : Result (List Mark) BuildFault). IfOk r (λ marks. marks ≡ marks_of work over.compiled)) over.gives.0 over.builds.marks in
-      let whole : IsWhole work over.compiled = subst (λ (r : Result (List Mark) BuildFault). OnOk r (IsWhole work over.compiled)) over.gives.0 over.builds.whole in
+      subst (λ (r : Result (List Mark) RunFault). IfOk r (λ marks. marks ≡ marks_of work over.compiled)) over.gives.0 over.builds.marks in
+      let whole : IsWhole work over.compiled = subst (λ (r : Result (List Mark) RunFault). OnOk r (IsWhole work over.compiled)) over.gives.0 over.builds.whole in
       let says : SaysTests (setting over.compiled) (list_all is_made (marks_of work over.compiled)) tested.tests over.tests =
       subst (λ (m : List Mark). SaysTests (setting over.compiled) (list_all is_made m) tested.tests over.tests) marked over.gives.1 in
       record {
@@ -82,7 +82,7 @@ module _ (answer : Request → Exit) (options : GenerateOptions) (read : ReadPro
             (ends_said (setting over.compiled) (list_all is_made (marks_of work over.compiled)) tested.tests over.tests says);
       }
 
-  pub tested_faulted : (why other : BuildFault) → Over (Err why) → RanTested answer work options read (Err other) events
+  pub tested_faulted : (why other : RunFault) → Over (Err why) → RanTested answer work options read (Err other) events
   tested_faulted why other over = record {
     ran = ran_over (Err why) over (OnOk (fails other)) tt tt tt;
     marks = tt;
@@ -90,7 +90,7 @@ module _ (answer : Request → Exit) (options : GenerateOptions) (read : ReadPro
   }
 
 -- the same over records that reads of the disk give
-pub over_records : (answer : Request → Exit) (options : GenerateOptions) (read : ReadProject) (records : List Record) (disk : DiskState) (result : Result Tested BuildFault) (events : List Event) → records_on disk ≡ records →
+pub over_records : (answer : Request → Exit) (options : GenerateOptions) (read : ReadProject) (records : List Record) (disk : DiskState) (result : Result Tested RunFault) (events : List Event) → records_on disk ≡ records →
     RanTested answer (second_work options (records_on disk) read.graph) options read result events → RanTested answer (second_work options records read.graph) options read result events
 over_records answer options read records disk result events are ran =
     subst (λ (r : List Record). RanTested answer (second_work options r read.graph) options read result events) are ran

@@ -15,7 +15,7 @@ use Rattle.run_spec.specs.Settled.{request_unless}
 use Rattle.run_spec.specs.Commits.{commits}
 use Rattle.run_spec.specs.JournalParts.{compile_part, test_part}
 use Rattle.run_spec.specs.Marks.{is_refused, marks_of, steady_marks}
-use Rattle.build_loop.specs.declared.faults.BuildFault.{BuildFault}
+use Rattle.run_steps.specs.declared.fault.RunFault.{RunFault}
 use Rattle.build_loop.specs.Ran.{is_made}
 use Rattle.test_journal.specs.TestJournal.{TestSetting, LawfulTests, IsWholeTests}
 use Rattle.run_tested.specs.declared.testing.Tested.{Tested}
@@ -58,7 +58,7 @@ pub record IsRightSecond (answer : Request → Exit) (options : GenerateOptions)
 
 -- What the first build did over a disk: where there is no fault its marks are those of what happened, and reads of the disk
 -- then give the records of its ends.
-pub record RanFirst (answer : Request → Exit) (work : Work) (result : Result (List Mark) BuildFault) (disk : DiskState) (events : List Event) : Type 0 where
+pub record RanFirst (answer : Request → Exit) (work : Work) (result : Result (List Mark) RunFault) (disk : DiskState) (events : List Event) : Type 0 where
   pub built : RanBuild answer work (OnOk result) events
   pub compilers : (compile_part events ≡ events) × (test_part events ≡ [])
   pub marks : IfOk result (λ marks. marks ≡ marks_of work events)
@@ -78,13 +78,13 @@ pub record RanSecond (answer : Request → Exit) (work : Work) (setting : List E
 
 -- What a build and its tests did, as `RanSecond` has it; and where there is no fault, the marks and the ends of tests that are
 -- answered are those of what happened.
-pub record RanTested (answer : Request → Exit) (work : Work) (options : GenerateOptions) (read : ReadProject) (result : Result Tested BuildFault) (events : List Event) : Type 0 where
+pub record RanTested (answer : Request → Exit) (work : Work) (options : GenerateOptions) (read : ReadProject) (result : Result Tested RunFault) (events : List Event) : Type 0 where
   pub ran : RanSecond answer work (setting_of options read work) (OnOk result) events
   pub marks : IfOk result (λ tested. tested.marks ≡ marks_of work (compile_part events))
   pub tests : IfOk result (λ tested. tested.tests ≡ tests_of options read work events)
 
 -- What was done from the edited sources on, over these records, after a first build that compiled so many files.
-pub record RanEdited (answer : Request → Exit) (options : GenerateOptions) (edited : SourceReading) (records : List Record) (first : ℕ) (result : Result GeneratedSaid BuildFault) (events : List Event) : Type 0 where
+pub record RanEdited (answer : Request → Exit) (options : GenerateOptions) (edited : SourceReading) (records : List Record) (first : ℕ) (result : Result GeneratedSaid RunFault) (events : List Event) : Type 0 where
   pub ran : (read : ReadProject) → edited ≡ Found read → RanSecond answer (second_work options records read.graph) (setting_of options read (second_work options records read.graph)) (OnOk result) events
   pub unread : ((read : ReadProject) → edited ≡ Found read → ⊥) → events ≡ []
   pub says : IfOk result (λ said. said ≡ second_said options first records edited events)
@@ -92,7 +92,7 @@ pub record RanEdited (answer : Request → Exit) (options : GenerateOptions) (ed
 -- What was done with the generated project, by what its sources say before their edit and after it. The first part is a build
 -- over no record. The second comes only where all files of the first are made: a build and its tests over the records of the
 -- ends of the first. Both are right. Where there is no fault, what is said is that of both parts.
-pub record RanGenerated (answer : Request → Exit) (options : GenerateOptions) (reading edited : SourceReading) (result : Result GeneratedSaid BuildFault) (events : List Event) : Type 0 where
+pub record RanGenerated (answer : Request → Exit) (options : GenerateOptions) (reading edited : SourceReading) (result : Result GeneratedSaid RunFault) (events : List Event) : Type 0 where
   pub first : List Event
   pub second : List Event
   pub parted : events ≡ first ++ second

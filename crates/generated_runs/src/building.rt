@@ -4,33 +4,33 @@ ghost use Rattle.std.specs.Prelude.{◌≡◌, ◌≤◌, ◌++◌, [], ℕ, Som
 ghost use Rattle.outside.specs.FaultCounts.{BuildFaultCounts, NoBuildCountFell, child_counts};
 ghost use Rattle.memory_outside.specs.Disks.{moments_of};
 ghost use Rattle.run_spec.specs.ChildJournal.{since};
-ghost use Rattle.build_loop.specs.Faults.{Explains, fault_of};
-ghost use Rattle.build_loop.specs.declared.faults.BuildFault.TheVariants as fault;
+ghost use Rattle.run_steps.specs.Faults.{Explains, fault_of};
+ghost use Rattle.run_steps.specs.declared.fault.RunFault.TheVariants as fault;
 ghost use Rattle.generated_runs.specs.Sources.{first_work};
 ghost use Rattle.generated_runs.specs.Ran.{RanFirst};
 
 use crate::options::GenerateOptions;
 use base::{Graph, SLOT_LIMIT};
-use build_loop::BuildFault;
 use memory_outside::MemDisk;
 use outside::Procs;
-use run_build::{AsStored, BuildOptions, build_over};
+use run_build::{BuildOptions, build_over};
 use run_spec::MarkList;
+use run_steps::RunFault;
 use std::alloc::Global;
 use store_requests::RequestStore;
 
 /// Why a build over a disk in memory ended, which fails for want of memory alone.
-pub fn own_fault(fault: BuildFault) -> BuildFault
+pub fn own_fault(fault: RunFault) -> RunFault
     ensures same { (first now : BuildFaultCounts) (disks : ℕ) → Explains (Some fault) first now →
         Explains (Some result)
         (record first { disks = disks })
         (record now { disks = disks }) }
 {
     match fault {
-        BuildFault::NoMemory => BuildFault::NoMemory,
-        BuildFault::StartFailed => BuildFault::StartFailed,
-        BuildFault::ChildLost => BuildFault::ChildLost,
-        BuildFault::DiskFailed => BuildFault::NoMemory,
+        RunFault::NoMemory => RunFault::NoMemory,
+        RunFault::StartFailed => RunFault::StartFailed,
+        RunFault::ChildLost => RunFault::ChildLost,
+        RunFault::DiskFailed => RunFault::NoMemory,
     }
 }
 
@@ -41,7 +41,7 @@ pub fn build_first<P: Procs>(
     options: GenerateOptions,
     disk: &mut MemDisk,
     procs: &mut P,
-) -> Result<MarkList, BuildFault>
+) -> Result<MarkList, RunFault>
     requires slots { (1 ≤ options.slots) × (options.slots ≤ SLOT_LIMIT) }
     requires idle { P.running procs.old ≡ [] }
     ensures running { P.running procs.new ≡ [] }
@@ -65,9 +65,7 @@ pub fn build_first<P: Procs>(
         keep_going: false,
         clean: true,
     };
-    match build_over::<RequestStore<'_>, AsStored, MemDisk, P>(
-        alloc, graph, orders, &AsStored, disk, procs,
-    ) {
+    match build_over::<RequestStore<'_>, MemDisk, P>(alloc, graph, orders, disk, procs) {
         Ok(marks) => Ok(marks),
         Err(fault) => Err(own_fault(fault)),
     }

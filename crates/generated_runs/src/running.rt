@@ -6,7 +6,7 @@ ghost use Rattle.outside.specs.Records.{Record};
 ghost use Rattle.outside.specs.FaultCounts.{NoBuildCountFell, child_counts};
 ghost use Rattle.memory_outside.specs.Disks.{moments_of};
 ghost use Rattle.run_spec.specs.ChildJournal.{since};
-ghost use Rattle.build_loop.specs.Faults.{Explains, fault_of};
+ghost use Rattle.run_steps.specs.Faults.{Explains, fault_of};
 ghost use Rattle.vhdl_spec.specs.Scans.{Finding, IsScanner};
 ghost use Rattle.test_spec.specs.Runs.{FitsRun};
 ghost use Rattle.project_reading.specs.Reading.{Found};
@@ -22,11 +22,11 @@ use crate::saying::{are_made, compiled, marks_said, stop_said, tested_said};
 use crate::sources::read_generated;
 use crate::testing::{all_runs, test_second};
 use base::{CASE_LIMIT, Numbers, SLOT_LIMIT};
-use build_loop::BuildFault;
 use generated_project::edited_package;
 use memory_outside::MemDisk;
 use outside::Procs;
 use project_reading::{Extent, ReadProject};
+use run_steps::RunFault;
 use std::alloc::Global;
 use test_spec::TestRunList;
 
@@ -42,7 +42,7 @@ fn test_planned<P: Procs>(
     first: u64,
     disk: &mut MemDisk,
     procs: &mut P,
-) -> Result<GeneratedSaid, BuildFault>
+) -> Result<GeneratedSaid, RunFault>
     requires slots { (1 ≤ options.slots) × (options.slots ≤ SLOT_LIMIT) }
     requires idle { P.running procs.old ≡ [] }
     requires runs { runs.now ≡ runs_in read.now }
@@ -68,7 +68,7 @@ fn test_planned<P: Procs>(
     match test_second(alloc, read, runs, options, disk, procs) {
         Ok(tested) => match tested_said(alloc, options, first, read, &tested) {
             Ok(said) => Ok(said),
-            Err(_) => Err(BuildFault::NoMemory),
+            Err(_) => Err(RunFault::NoMemory),
         },
         Err(fault) => Err(fault),
     }
@@ -82,7 +82,7 @@ fn test_read<P: Procs>(
     first: u64,
     disk: &mut MemDisk,
     procs: &mut P,
-) -> Result<GeneratedSaid, BuildFault>
+) -> Result<GeneratedSaid, RunFault>
     requires slots { (1 ≤ options.slots) × (options.slots ≤ SLOT_LIMIT) }
     requires idle { P.running procs.old ≡ [] }
     requires read { IsReadProject (wish_for Tests) read.now }
@@ -105,7 +105,7 @@ fn test_read<P: Procs>(
 {
     match all_runs(alloc, read) {
         Ok(runs) => test_planned(alloc, read, &runs, options, first, disk, procs),
-        Err(_) => Err(BuildFault::NoMemory),
+        Err(_) => Err(RunFault::NoMemory),
     }
 }
 
@@ -116,7 +116,7 @@ fn run_edited<P: Procs>(
     first: u64,
     disk: &mut MemDisk,
     procs: &mut P,
-) -> Result<GeneratedSaid, BuildFault>
+) -> Result<GeneratedSaid, RunFault>
     requires slots { (1 ≤ options.slots) × (options.slots ≤ SLOT_LIMIT) }
     requires idle { P.running procs.old ≡ [] }
     ensures running { P.running procs.new ≡ [] }
@@ -141,7 +141,7 @@ fn run_edited<P: Procs>(
         Ok(read) => test_read(alloc, &read, options, first, disk, procs),
         Err(stop) => match stop_said(alloc, stop) {
             Ok(said) => Ok(said),
-            Err(_) => Err(BuildFault::NoMemory),
+            Err(_) => Err(RunFault::NoMemory),
         },
     }
 }
@@ -153,7 +153,7 @@ fn run_read<P: Procs>(
     options: GenerateOptions,
     disk: &mut MemDisk,
     procs: &mut P,
-) -> Result<GeneratedSaid, BuildFault>
+) -> Result<GeneratedSaid, RunFault>
     requires slots { (1 ≤ options.slots) × (options.slots ≤ SLOT_LIMIT) }
     requires idle { P.running procs.old ≡ [] }
     ensures running { P.running procs.new ≡ [] }
@@ -180,7 +180,7 @@ fn run_read<P: Procs>(
             }
             match marks_said(alloc, read, &marks) {
                 Ok(said) => Ok(said),
-                Err(_) => Err(BuildFault::NoMemory),
+                Err(_) => Err(RunFault::NoMemory),
             }
         }
         Err(fault) => Err(fault),
@@ -197,7 +197,7 @@ pub fn run_generated<P: Procs>(
     alloc: Global,
     options: GenerateOptions,
     procs: &mut P,
-) -> Result<GeneratedSaid, BuildFault>
+) -> Result<GeneratedSaid, RunFault>
     requires slots { (1 ≤ options.slots) × (options.slots ≤ SLOT_LIMIT) }
     requires idle { P.running procs.old ≡ [] }
     ensures running { P.running procs.new ≡ [] }
@@ -224,7 +224,7 @@ pub fn run_generated<P: Procs>(
         }
         Err(stop) => match stop_said(alloc, stop) {
             Ok(said) => Ok(said),
-            Err(_) => Err(BuildFault::NoMemory),
+            Err(_) => Err(RunFault::NoMemory),
         },
     }
 }

@@ -5,7 +5,7 @@ ghost use Rattle.outside.specs.Records.{Record};
 ghost use Rattle.outside.specs.FaultCounts.{NoBuildCountFell, child_counts};
 ghost use Rattle.memory_outside.specs.Disks.{moments_of};
 ghost use Rattle.run_spec.specs.ChildJournal.{since};
-ghost use Rattle.build_loop.specs.Faults.{Explains, fault_of};
+ghost use Rattle.run_steps.specs.Faults.{Explains, fault_of};
 ghost use Rattle.test_spec.specs.Runs.{FitsRun};
 ghost use Rattle.project_reading.specs.Sources.{IsReadProject};
 ghost use Rattle.generated_runs.specs.Sources.{runs_in, second_work, wish_for};
@@ -16,11 +16,11 @@ use crate::building::own_fault;
 use crate::options::GenerateOptions;
 use crate::sources::wish_for;
 use base::{CASE_LIMIT, NoMemory, SLOT_LIMIT};
-use build_loop::BuildFault;
 use memory_outside::MemDisk;
 use outside::Procs;
 use project_reading::{Extent, ReadProject};
-use run_build::{AsStored, BuildOptions};
+use run_build::BuildOptions;
+use run_steps::RunFault;
 use run_tested::{Tested, test_over};
 use std::alloc::Global;
 use store_requests::RequestStore;
@@ -46,7 +46,7 @@ pub fn test_second<P: Procs>(
     options: GenerateOptions,
     disk: &mut MemDisk,
     procs: &mut P,
-) -> Result<Tested, BuildFault>
+) -> Result<Tested, RunFault>
     requires slots { (1 ≤ options.slots) × (options.slots ≤ SLOT_LIMIT) }
     requires idle { P.running procs.old ≡ [] }
     requires runs { runs.now ≡ runs_in read.now }
@@ -74,14 +74,13 @@ pub fn test_second<P: Procs>(
         keep_going: false,
         clean: false,
     };
-    match test_over::<RequestStore<'_>, AsStored, MemDisk, P>(
+    match test_over::<RequestStore<'_>, MemDisk, P>(
         alloc,
         &read.graph,
         orders,
         runs,
         &read.project.simulator,
         false,
-        &AsStored,
         disk,
         procs,
     ) {

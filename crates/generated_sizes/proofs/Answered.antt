@@ -5,8 +5,8 @@ use Rattle.base.specs.declared.child.Exit.{Exit}
 use Rattle.base.specs.declared.child.Request.{Request}
 use Rattle.base_outcomes.specs.declared.outcome.Outcome.{Outcome}
 use Rattle.base_outcomes.specs.declared.outcome.Outcome.TheVariants.{Done}
-use Rattle.build_loop.specs.declared.faults.BuildFault.{BuildFault}
-use Rattle.build_loop.specs.declared.faults.BuildFault.TheVariants as fault
+use Rattle.run_steps.specs.declared.fault.RunFault.{RunFault}
+use Rattle.run_steps.specs.declared.fault.RunFault.TheVariants as fault
 use Rattle.memory_children.specs.OneAnswer.{IsLoopAnswer}
 use Rattle.vhdl_spec.specs.Scans.{Finding, IsScanner}
 use Rattle.generated_runs.specs.Ran.{RanGenerated}
@@ -19,13 +19,13 @@ use Rattle.generated_sizes.specs.SaidOfSizes.{IsAnsweredInFull, said_of_size}
 use Rattle.generated_sizes.proofs.SaidOfSizes.{said_of}
 
 -- a fault is answered by no answer that is said
-no_answer : (which : BuildFault) → IsSaid (fault_outcome which) → ⊥
+no_answer : (which : RunFault) → IsSaid (fault_outcome which) → ⊥
 no_answer fault.NoMemory is = is
 no_answer fault.StartFailed is = is
 no_answer fault.ChildLost is = is
 no_answer fault.DiskFailed is = is
 
-in_full : (count : ℕ) (result : Outcome) (puts : Type 0) (old new : List ℕ) (end : Result GeneratedSaid BuildFault) → ((said : GeneratedSaid) → end ≡ Ok said → said ≡ said_of_size count) → AnswersGenerated end result → (puts → SaysGenerated end result old new) →
+in_full : (count : ℕ) (result : Outcome) (puts : Type 0) (old new : List ℕ) (end : Result GeneratedSaid RunFault) → ((said : GeneratedSaid) → end ≡ Ok said → said ≡ said_of_size count) → AnswersGenerated end result → (puts → SaysGenerated end result old new) →
     IsAnsweredInFull count result puts old new
 in_full count result puts old new (Ok said) exact answers says =
     let is : said ≡ said_of_size count = exact said refl in
@@ -43,5 +43,5 @@ pub answered : (scan : List ℕ → Finding) (answer : Request → Exit) (option
     GeneratesAs scan answer options result puts events old new → IsAnsweredInFull options.packages result puts old new
 answered scan answer options result puts events old new scans is some low ran =
     in_full options.packages result puts old new ran.said
-    (λ said ended. said_of scan scans answer is options some low said events (subst (λ (end : Result GeneratedSaid BuildFault). RanGenerated answer options (first_reading scan options) (second_reading scan options) end events) ended ran.ran))
+    (λ said ended. said_of scan scans answer is options some low said events (subst (λ (end : Result GeneratedSaid RunFault). RanGenerated answer options (first_reading scan options) (second_reading scan options) end events) ended ran.ran))
     ran.answers ran.says

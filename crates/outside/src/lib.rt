@@ -18,7 +18,7 @@ pub use disk::{Disk, Side};
 pub use durable::{cut_durably, write_durably};
 pub use laws::{laws_of_commits, laws_of_phases};
 pub use procs::{Ended, Procs, StartFault, WaitFault};
-pub use records::{Records, StoreFault};
+pub use records::{OpenRecords, Records, StoreFault};
 pub use reports::{ReportFault, Reports};
 pub use streams::{Sink, SinkFault, Source, SourceFault, TakeEnd};
 pub use tree::{NamesEnd, ReadEnd, Tree, TreeFault};

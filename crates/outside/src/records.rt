@@ -52,13 +52,10 @@ impl From<DiskFailed> for StoreFault {
 }
 
 /// Records of compiled files on a disk: of each what the compiler was asked, and what it gave. The last record of a name
-/// counts. After `DiskFailed` a store is broken until it is opened again.
+/// counts. A store knows where it has the files of one graph. After `DiskFailed` it is broken until it is opened again.
 pub trait Records: Sized {
     /// A record that is ready to be committed.
     type Prepared;
-
-    /// Where a store has the files of a graph, by position.
-    type Seats: Drop;
 
     /// The records that an image of a disk holds, in order.
     ghost records_of: { Image → List Record };
@@ -83,71 +80,20 @@ pub trait Records: Sized {
     /// The position of the file that a record was prepared for.
     ghost position_of: { Self.Prepared → ℕ };
 
-    /// These are the seats of the files of a graph in the store.
-    ghost is_seated: { Self → List Entry → Self.Seats → Type 0 };
-
-    /// Opens the records of a disk. Whatever a disk holds denotes some records, possibly none. It first syncs
-    /// both sides.
-    fn from_disk<D: Disk>(alloc: Global, disk: &mut D) -> Result<Self, StoreFault>
-        // At any moment, after a fault too, a stop can leave the records of an image at entry, or the latest of these.
-        ensures any_moment { D.tells →
-            AtAnyMoment (D.moments disk.old) (D.moments disk.new)
-            (HasRecordsOf records_of (D.moments disk.old).now) }
-        // Once both sides are synced, it leaves those of what reads gave at entry, or the latest of these.
-        ensures opens { D.tells →
-            let before = records_of (reads_of (D.moments disk.old).now) in
-            OpensWith (D.moments disk.old) (D.moments disk.new)
-            (λ image. IsAllOrLatest before (records_of image)) }
-        ensures records { D.tells →
-            let before = records_of (reads_of (D.moments disk.old).now) in
-            OnOk result (IsAllOrLatest before (records_of (reads_of (D.moments disk.new).now))) }
-        // Where reads give an image that opening leaves as it is, nothing is written.
-        ensures rests { D.tells →
-            is_resting (reads_of (D.moments disk.old).now) →
-            Rests result (D.moments disk.old) (D.moments disk.new) }
-        ensures in_step { D.tells → IfOk result (λ store. in_step store (D.moments disk.new).now) }
-        ensures usable { IfOk result (λ store. broken store ≡ false) }
-        ensures cause { StoreCounts result (D.failed_disk_calls disk.old)
-            (D.failed_disk_calls disk.new) };
-
-    /// Opens a disk without records, whatever it holds. It first syncs both sides, and takes up nothing of what they hold.
-    fn emptied<D: Disk>(alloc: Global, disk: &mut D) -> Result<Self, StoreFault>
-        // Once both sides are synced, a stop can leave the records of what reads gave at entry, or none.
-        ensures opens { D.tells →
-            let before = records_of (reads_of (D.moments disk.old).now) in
-            OpensWith (D.moments disk.old) (D.moments disk.new)
-            (λ image. IsEither (records_of image) before []) }
-        // Once no image has a record, none has one.
-        ensures loses { D.tells →
-            NeverLoses (D.moments disk.old) (D.moments disk.new)
-            (λ image. records_of image ≡ []) }
-        ensures none { D.tells →
-            OnOk result (records_of (reads_of (D.moments disk.new).now) ≡ []) }
-        ensures latest { IfOk result (λ store. (name : FileName) → latest_of store name ≡ None) }
-        ensures in_step { D.tells → IfOk result (λ store. in_step store (D.moments disk.new).now) }
-        ensures usable { IfOk result (λ store. broken store ≡ false) }
-        ensures cause { StoreCounts result (D.failed_disk_calls disk.old)
-            (D.failed_disk_calls disk.new) };
-
-    /// Where the store has the files of a graph, looked up once. It keeps the names of those that it doesn't know yet; its
-    /// records are unchanged.
-    fn seats(&mut self, alloc: Global, graph: &Graph) -> Result<Self::Seats, NoMemory>
-        ensures seated { IfOk result (is_seated self.new graph.now) }
-        ensures latest { (name : FileName) → latest_of self.new name ≡ latest_of self.old name }
-        ensures broken { broken self.new ≡ broken self.old }
-        ensures in_step { (disk : DiskState) → in_step self.old disk → in_step self.new disk };
+    /// The store has looked up the files of a graph.
+    ghost is_over: { Self → List Entry → Type 0 };
 
     /// Whether all files that a file depends on have a record, and its own latest record has what would be asked for it now,
     /// over these as their latest records built them. It takes no memory, and time in proportion to the file's text and list.
-    fn fits(&self, seats: &Self::Seats, graph: &Graph, at: u32) -> bool
+    fn fits(&self, graph: &Graph, at: u32) -> bool
         requires place { at < length graph.now }
-        requires seated { is_seated self.now graph.now seats.now }
+        requires over { is_over self.now graph.now }
         ensures { IsTrue result ↔ IsRecorded (latest_of self.now) graph.now at };
 
     /// What the compiler gave by the latest record of the file at a position, lent from the store, as `artefact` does.
-    fn artefact_at(&self, seats: &Self::Seats, graph: &Graph, at: u32) -> Option<&[u8]>
+    fn artefact_at(&self, graph: &Graph, at: u32) -> Option<&[u8]>
         requires place { at < length graph.now }
-        requires seated { is_seated self.now graph.now seats.now }
+        requires over { is_over self.now graph.now }
         ensures bytes { (entry : Entry) → slice_get graph.now at ≡ Some entry →
             option_map (λ bytes. bytes.now) result
             ≡ option_map (λ kept. kept.artefact) (latest_of self.now entry.name) }
@@ -164,13 +110,12 @@ pub trait Records: Sized {
     fn prepare(
         &mut self,
         alloc: Global,
-        seats: &Self::Seats,
         graph: &Graph,
         at: u32,
         artefact: &Text,
     ) -> Result<Self::Prepared, NoMemory>
         requires place { at < length graph.now }
-        requires seated { is_seated self.old graph.now seats.now }
+        requires over { is_over self.old graph.now }
         requires artefact { length artefact.now ≤ ARTEFACT_LIMIT }
         requires built { All (HasLatest (latest_of self.old) graph.now) (deps_at graph.now at) }
         ensures record { IfOk result (λ prepared. (entry : Entry) →
@@ -179,31 +124,25 @@ pub trait Records: Sized {
         ensures at { IfOk result (λ prepared. position_of prepared ≡ at) }
         ensures ready { IfOk result (λ prepared. is_ready self.new prepared) }
         ensures latest { (name : FileName) → latest_of self.new name ≡ latest_of self.old name }
-        ensures seats { (graph : List Entry) (seats : Self.Seats) →
-            is_seated self.old graph seats → is_seated self.new graph seats }
+        ensures over { (graph : List Entry) → is_over self.old graph → is_over self.new graph }
         ensures broken { broken self.new ≡ broken self.old }
         ensures in_step { (disk : DiskState) → in_step self.old disk → in_step self.new disk };
 
-    /// Adds a prepared record, and seats it in the place of the one before. It takes no memory.
-    fn commit<D: Disk>(
-        &mut self,
-        disk: &mut D,
-        prepared: Self::Prepared,
-        seats: &mut Self::Seats,
-    ) -> Result<(), DiskFailed>
+    /// Adds a prepared record, which is then the latest of its file. It takes no memory.
+    fn commit<D: Disk>(&mut self, disk: &mut D, prepared: Self::Prepared) -> Result<(), DiskFailed>
         requires usable { broken self.old ≡ false }
         requires ready { is_ready self.old prepared }
-        requires seated { (graph : List Entry) × is_seated self.old graph seats.old
+        requires over { (graph : List Entry) × is_over self.old graph
             × (position_of prepared < length graph) }
         requires in_step { D.tells → in_step self.old (D.moments disk.old).now }
         ensures latest { (name : FileName) →
             latest_of self.new name
             ≡ after_commit result (record_of self.old prepared) (latest_of self.old) name }
-        ensures seats { (graph : List Entry) (entry : Entry) → IsGraph graph →
-            is_seated self.old graph seats.old →
+        ensures over { (graph : List Entry) (entry : Entry) → IsGraph graph →
+            is_over self.old graph →
             slice_get graph (position_of prepared) ≡ Some entry →
             entry.name ≡ (record_of self.old prepared).asked.name →
-            is_seated self.new graph seats.new }
+            is_over self.new graph }
         ensures in_step { D.tells → OnOk result (in_step self.new (D.moments disk.new).now) }
         ensures added { D.tells →
             let before = records_of (reads_of (D.moments disk.old).now) in
@@ -234,4 +173,57 @@ pub trait Records: Sized {
     /// and the latest record of each name is the disk's.
     ghost held: { (store : Self) (disk : DiskState) (name : FileName) → in_step store disk →
         latest_of store name ≡ latest name (records_of (reads_of disk)) };
+}
+
+/// How records are opened: over the graph that is built, from which a store may borrow texts. The calls stand apart from `Records`,
+/// since the laws of a trait with a lifetime can't be used in a proof.
+pub trait OpenRecords<'g>: Records {
+    /// Opens the records of a disk, and looks up the files of a graph. Whatever a disk holds denotes some records, possibly
+    /// none. It first syncs both sides.
+    fn open<D: Disk>(alloc: Global, disk: &mut D, graph: &'g Graph) -> Result<Self, StoreFault>
+        // At any moment, after a fault too, a stop can leave the records of an image at entry, or the latest of these.
+        ensures any_moment { D.tells →
+            AtAnyMoment (D.moments disk.old) (D.moments disk.new)
+            (HasRecordsOf Self.records_of (D.moments disk.old).now) }
+        // Once both sides are synced, it leaves those of what reads gave at entry, or the latest of these.
+        ensures opens { D.tells →
+            let before = Self.records_of (reads_of (D.moments disk.old).now) in
+            OpensWith (D.moments disk.old) (D.moments disk.new)
+            (λ image. IsAllOrLatest before (Self.records_of image)) }
+        ensures records { D.tells →
+            let before = Self.records_of (reads_of (D.moments disk.old).now) in
+            OnOk result (IsAllOrLatest before (Self.records_of (reads_of (D.moments disk.new).now))) }
+        // Where reads give an image that opening leaves as it is, nothing is written.
+        ensures rests { D.tells →
+            Self.is_resting (reads_of (D.moments disk.old).now) →
+            Rests result (D.moments disk.old) (D.moments disk.new) }
+        ensures in_step { D.tells →
+            IfOk result (λ store. Self.in_step store (D.moments disk.new).now) }
+        ensures usable { IfOk result (λ store. Self.broken store ≡ false) }
+        ensures over { IfOk result (λ store. Self.is_over store graph.now) }
+        ensures cause { StoreCounts result (D.failed_disk_calls disk.old)
+            (D.failed_disk_calls disk.new) };
+
+    /// Opens a disk without records, whatever it holds, for the files of a graph. It first syncs both sides, and takes up
+    /// nothing of what they hold.
+    fn emptied<D: Disk>(alloc: Global, disk: &mut D, graph: &'g Graph) -> Result<Self, StoreFault>
+        // Once both sides are synced, a stop can leave the records of what reads gave at entry, or none.
+        ensures opens { D.tells →
+            let before = Self.records_of (reads_of (D.moments disk.old).now) in
+            OpensWith (D.moments disk.old) (D.moments disk.new)
+            (λ image. IsEither (Self.records_of image) before []) }
+        // Once no image has a record, none has one.
+        ensures loses { D.tells →
+            NeverLoses (D.moments disk.old) (D.moments disk.new)
+            (λ image. Self.records_of image ≡ []) }
+        ensures none { D.tells →
+            OnOk result (Self.records_of (reads_of (D.moments disk.new).now) ≡ []) }
+        ensures latest { IfOk result
+            (λ store. (name : FileName) → Self.latest_of store name ≡ None) }
+        ensures in_step { D.tells →
+            IfOk result (λ store. Self.in_step store (D.moments disk.new).now) }
+        ensures usable { IfOk result (λ store. Self.broken store ≡ false) }
+        ensures over { IfOk result (λ store. Self.is_over store graph.now) }
+        ensures cause { StoreCounts result (D.failed_disk_calls disk.old)
+            (D.failed_disk_calls disk.new) };
 }

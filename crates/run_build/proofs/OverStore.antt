@@ -37,9 +37,10 @@ use Rattle.run_spec.proofs.Prefixes.{lawful_none}
 use Rattle.run_histories.proofs.RunSteps.{readable_since, no_commits}
 use Rattle.run_spec.proofs.Waiting.{waits_none}
 use Rattle.run_laws.proofs.SparedRuns.{same_latest}
-use Rattle.build_loop.specs.declared.faults.BuildFault.{BuildFault}
-use Rattle.build_loop.specs.declared.faults.BuildFault.TheVariants as fault
-use Rattle.build_loop.specs.Faults.{fault_of, is_no_memory, is_all_committed}
+use Rattle.run_steps.specs.declared.fault.RunFault.{RunFault}
+use Rattle.run_steps.specs.declared.fault.RunFault.TheVariants as fault
+use Rattle.run_steps.specs.Faults.{fault_of, is_no_memory}
+use Rattle.build_loop.specs.Faults.{is_all_committed}
 use Rattle.build_loop.specs.Ran.{BuildRan, is_made, built_by}
 use Rattle.build_loop.specs.Requests.{lent_at}
 use Rattle.run_build.specs.Orders.{IsDurablyRecorded}
@@ -78,10 +79,6 @@ pub on_ok_any : {A B P : Type 0} (result : Result A B) → P → OnOk result P
 on_ok_any (Ok given) holds = holds
 on_ok_any (Err why) holds = tt
 
-pub if_ok_any : {A B P : Type 0} (result : Result A B) → P → IfOk result (λ given. P)
-if_ok_any (Ok given) holds = holds
-if_ok_any (Err why) holds = tt
-
 -- where opening wrote nothing and nothing is done after it, nothing is written
 pub rests_still : {K T E F : Type 0} (store : K) (result : Result T F) (old middle new : Moments) → Rests {T = K} {E = E} (Ok store) old middle → new ≡ middle → Rests result old new
 rests_still store result old middle new rests same = record {
@@ -94,7 +91,7 @@ pub rests_failed : {K T E F : Type 0} (why : E) (fault : F) (old new : Moments) 
 rests_failed why fault old new rests = record { goes = rests.goes; same = tt }
 
 -- a build whose store could not be opened starts nothing
-pub not_opened : (records_of : Image → List Record) (answer : Request → Exit) (order : Order) (why : BuildFault) (failed : Bool) (old new : Moments) (events : List Event) → events ≡ [] → IsGraph order.graph → AreSound new → Follows old new
+pub not_opened : (records_of : Image → List Record) (answer : Request → Exit) (order : Order) (why : RunFault) (failed : Bool) (old new : Moments) (events : List Event) → events ≡ [] → IsGraph order.graph → AreSound new → Follows old new
     → ((more : List Record) → HasPhases records_of order.clean 0 more old.now (added_since old new)) → BuildsOver records_of answer order (Err why) failed old new events
 unfolding EachAfter
 not_opened records_of answer order why failed old new events none is sound follows phases =
@@ -145,22 +142,22 @@ unfolding latest
 base_latest records_of true disk records name none = ap (latest name) none
 base_latest records_of false disk records name kept = same_latest name (records_of (reads_of disk)) records kept
 
-on_ok_if : (A : Type 0) (result : Result (List Mark) BuildFault) → OnTrue (is_ok result) A → OnOk result A
+on_ok_if : (A : Type 0) (result : Result (List Mark) RunFault) → OnTrue (is_ok result) A → OnOk result A
 on_ok_if A (Ok marks) a = a
 on_ok_if A (Err why) a = tt
 
-if_ok_if : (P : List Mark → Type 0) (result : Result (List Mark) BuildFault) → OnTrue (is_ok result) (IfOk result P) → IfOk result P
+if_ok_if : (P : List Mark → Type 0) (result : Result (List Mark) RunFault) → OnTrue (is_ok result) (IfOk result P) → IfOk result P
 if_ok_if P (Ok marks) a = a
 if_ok_if P (Err why) a = tt
 
-not_no_memory : (result : Result (List Mark) BuildFault) → (result ≡ Err fault.NoMemory → ⊥) → is_no_memory (fault_of result) ≡ false
+not_no_memory : (result : Result (List Mark) RunFault) → (result ≡ Err fault.NoMemory → ⊥) → is_no_memory (fault_of result) ≡ false
 not_no_memory (Ok marks) other = refl
 not_no_memory (Err fault.NoMemory) other = absurd (other refl)
 not_no_memory (Err fault.StartFailed) other = refl
 not_no_memory (Err fault.ChildLost) other = refl
 not_no_memory (Err fault.DiskFailed) other = refl
 
-recorded_in_end : (records_of : Image → List Record) (setting : Work) (now : FileName → Option Record) (result : Result (List Mark) BuildFault) (events : List Event) (disk : DiskState) → IfOk result (λ marks. marks ≡ marks_of setting events)
+recorded_in_end : (records_of : Image → List Record) (setting : Work) (now : FileName → Option Record) (result : Result (List Mark) RunFault) (events : List Event) (disk : DiskState) → IfOk result (λ marks. marks ≡ marks_of setting events)
     → IfOk result (λ marks. (position : ℕ) (mark : Mark) → slice_get marks position ≡ Some mark → is_made mark ≡ true → IsRecorded now setting.graph position) → OnOk result (KnowsDisk records_of now disk)
     → OnOk result ((position : ℕ) → position < length setting.graph → is_some (artefact_after setting events position) ≡ true → IsDurablyRecorded records_of disk setting.graph position)
 recorded_in_end records_of setting now (Ok marks) events disk marked recorded knows = λ position inside is.
@@ -182,7 +179,7 @@ pub none_tested : {s : Work} (old new events : List Event) → new ≡ old ++ ev
 none_tested {s} old new events journal lawful = ap test_part (ap (since old) journal ∙ since-added old events) ∙ (build_parts s events lawful).1
 
 -- a store that was emptied holds what was committed since, and nothing else, where all of it is acknowledged
-emptied_in_end : (records_of : Image → List Record) (clean : Bool) (first last : DiskState) (base more : List Record) (result : Result (List Mark) BuildFault) (broken : Bool) (acknowledged : ℕ) → IsBase records_of clean first base → OnOk result (broken ≡ false)
+emptied_in_end : (records_of : Image → List Record) (clean : Bool) (first last : DiskState) (base more : List Record) (result : Result (List Mark) RunFault) (broken : Bool) (acknowledged : ℕ) → IsBase records_of clean first base → OnOk result (broken ≡ false)
     → OnTrue (is_all_committed (fault_of result) broken) (acknowledged ≡ length more) → EachImage (λ image. HasFirst acknowledged (most_committed broken acknowledged) base more (records_of image)) last
     → OnOk result (clean ≡ true → EachImage (λ image. records_of image ≡ more) last)
 emptied_in_end records_of clean first last base more (Err why) broken acknowledged from usable whole each = tt
@@ -194,7 +191,7 @@ emptied_in_end records_of clean first last base more (Ok marks) broken acknowled
     has.are ∙ ap (λ (l : List Record). l ++ take has.count more) none ∙ take_all has.count more count
 
 module _ (records_of : Image → List Record) (answer : Request → Exit) (order : Order) (is : IsGraph order.graph) (old mid new : Moments) (sound : AreSound new) (first : Follows old mid) (opening : IsOpening records_of order.clean old.now (added_since old mid))
-    (base : IsBase records_of order.clean old.now (records_of (reads_of mid.now))) (before now : FileName → Option Record) (knows : KnowsDisk records_of before mid.now) (tells told : Type 0) (t : tells) (d : told) (result : Result (List Mark) BuildFault)
+    (base : IsBase records_of order.clean old.now (records_of (reads_of mid.now))) (before now : FileName → Option Record) (knows : KnowsDisk records_of before mid.now) (tells told : Type 0) (t : tells) (d : told) (result : Result (List Mark) RunFault)
     (old_journal journal : List Event) (broken failed : Bool) where
   latest_is : before ≡ latest_over records_of order.clean old.now
   latest_is = fun_ext (λ name. knows.held name ∙ base_latest records_of order.clean old.now (records_of (reads_of mid.now)) name base)
@@ -261,7 +258,7 @@ module _ (records_of : Image → List Record) (answer : Request → Exit) (order
   opened_over ran recorded knows_now works usable = over (subst Ran latest_is ran) recorded knows_now works usable
 
 -- a store that is usable after a build knows what whatever a stop can leave holds
-pub knows_if : (A B : Type 0) (result : Result (List Mark) BuildFault) (broken : Bool) → OnOk result (broken ≡ false) → OnFalse broken A → (A → B) → OnOk result B
+pub knows_if : (A B : Type 0) (result : Result (List Mark) RunFault) (broken : Bool) → OnOk result (broken ≡ false) → OnFalse broken A → (A → B) → OnOk result B
 knows_if A B (Ok marks) broken usable in_step gives = gives (subst (λ (b : Bool). OnFalse b A) usable in_step)
 knows_if A B (Err why) broken usable in_step gives = tt
 

@@ -14,8 +14,8 @@ use Rattle.run_spec.specs.ChildJournal.{Lawful, Answered, IsWhole, artefact_afte
 use Rattle.run_spec.specs.Commits.{commits, Waits}
 use Rattle.run_histories.specs.Histories.{Order, IsReadable, work_over}
 use Rattle.run_spec.specs.Marks.{marks_of}
-use Rattle.build_loop.specs.declared.faults.BuildFault.{BuildFault}
-use Rattle.build_loop.specs.declared.faults.BuildFault.TheVariants as fault
+use Rattle.run_steps.specs.declared.fault.RunFault.{RunFault}
+use Rattle.run_steps.specs.declared.fault.RunFault.TheVariants as fault
 use Rattle.run_build.specs.declared.building.Kept.{Kept}
 use Rattle.run_build.specs.Orders.{IsDurablyRecorded}
 
@@ -24,7 +24,7 @@ abbrev pub has_risen : ℕ → ℕ → Bool
 has_risen before now = nat_le (min (before + 1) (2 ^ 64 - 1)) now
 
 -- what a build gave, apart from the store that it kept
-abbrev pub marks_in : {K : Type 0} → Result (Kept K) BuildFault → Result (List Mark) BuildFault
+abbrev pub marks_in : {K : Type 0} → Result (Kept K) RunFault → Result (List Mark) RunFault
 marks_in (Ok kept) = Ok kept.marks
 marks_in (Err why) = Err why
 
@@ -45,7 +45,7 @@ RestsOver records_of is_resting order result old new events = order.clean ≡ fa
 -- go through the phases of a store to which its commits are added, so many of which are acknowledged: all of them where
 -- neither the disk nor memory failed. At its end each file that is made has a record of what would be asked for it now in
 -- whatever a stop can leave, and where the store is emptied that has no record but those of its commits.
-pub record BuildsOver (records_of : Image → List Record) (answer : Request → Exit) (order : Order) (result : Result (List Mark) BuildFault) (disk_failed : Bool) (old new : Moments) (events : List Event) : Type 0 where
+pub record BuildsOver (records_of : Image → List Record) (answer : Request → Exit) (order : Order) (result : Result (List Mark) RunFault) (disk_failed : Bool) (old new : Moments) (events : List Event) : Type 0 where
   pub graph_form : IsGraph order.graph
   pub lawful : Lawful (work_over records_of order old.now) events
   pub answered : Answered answer events

@@ -13,15 +13,15 @@ ghost use Rattle.run_histories.specs.Histories.{work_over};
 ghost use Rattle.run_spec.specs.JournalParts.{test_part};
 ghost use Rattle.build_loop.specs.Ran.{built_by, is_made};
 ghost use Rattle.build_loop.specs.Requests.{lent_at};
-ghost use Rattle.build_loop.specs.Faults.{Explains, fault_of};
+ghost use Rattle.run_steps.specs.Faults.{Explains, fault_of};
 ghost use Rattle.run_build.specs.Building.{OpensStore, BuildsOver, RestsOver, has_risen, marks_in};
 ghost use Rattle.run_build.specs.Orders.{order_by};
 
-use crate::opener::{Opener, SeatedStore, seated};
 use base::{FILE_LIMIT, Graph, SLOT_LIMIT};
-use build_loop::{BuildFault, build_marks};
-use outside::{Disk, Procs, Records, StoreFault};
+use build_loop::build_marks;
+use outside::{Disk, OpenRecords, Procs, Records, StoreFault};
 use run_spec::MarkList;
+use run_steps::RunFault;
 use std::alloc::Global;
 
 /// How a graph is built: with so many children at once, going on after a refusal or not, and over the records that are there
@@ -40,44 +40,39 @@ pub struct Kept<K> {
     pub store: K,
 }
 
-/// Opens the store of a disk for the build of a graph: with what it holds, by what opens it, or empty.
-fn open_store<'g, K: Records + Drop, O: Opener<'g, K>, D: Disk>(
+/// Opens the store of a disk for the build of a graph: with what it holds, or empty.
+fn open_store<'g, K: Records + OpenRecords<'g>, D: Disk>(
     alloc: Global,
-    opener: &O,
     disk: &mut D,
     graph: &'g Graph,
     clean: bool,
-) -> Result<SeatedStore<K, K::Seats>, StoreFault>
+) -> Result<K, StoreFault>
     ensures opens { D.tells →
         OpensStore K.records_of clean result (D.moments disk.old) (D.moments disk.new) }
     ensures rests { D.tells → clean ≡ false →
         K.is_resting (reads_of (D.moments disk.old).now) →
         Rests result (D.moments disk.old) (D.moments disk.new) }
     ensures in_step { D.tells →
-        IfOk result (λ opened. K.in_step opened.store (D.moments disk.new).now) }
-    ensures usable { IfOk result (λ opened. K.broken opened.store ≡ false) }
-    ensures seated { IfOk result (λ opened. K.is_seated opened.store graph.now opened.seats) }
+        IfOk result (λ store. K.in_step store (D.moments disk.new).now) }
+    ensures usable { IfOk result (λ store. K.broken store ≡ false) }
+    ensures over { IfOk result (λ store. K.is_over store graph.now) }
     ensures cause { StoreCounts result (D.failed_disk_calls disk.old)
         (D.failed_disk_calls disk.new) }
 {
     if clean {
-        return match K::emptied(alloc, disk) {
-            Ok(store) => seated(alloc, store, graph),
-            Err(fault) => Err(fault),
-        };
+        return K::emptied(alloc, disk, graph);
     }
-    opener.open(alloc, disk, graph)
+    K::open(alloc, disk, graph)
 }
 
 /// Opens the store of a disk, builds over its records, and keeps the store, which lends the artefacts of all files that are made.
-pub fn build_kept<'g, K: Records + Drop, O: Opener<'g, K>, D: Disk, P: Procs>(
+pub fn build_kept<'g, K: Records + OpenRecords<'g> + Drop, D: Disk, P: Procs>(
     alloc: Global,
     graph: &'g Graph,
     options: BuildOptions,
-    opener: &O,
     disk: &mut D,
     procs: &mut P,
-) -> Result<Kept<K>, BuildFault>
+) -> Result<Kept<K>, RunFault>
     requires slots { (1 ≤ options.slots) × (options.slots ≤ SLOT_LIMIT) }
     requires idle { P.running procs.old ≡ [] }
     ensures running { P.running procs.new ≡ [] }
@@ -116,39 +111,32 @@ pub fn build_kept<'g, K: Records + Drop, O: Opener<'g, K>, D: Disk, P: Procs>(
         (build_counts P.Procs D.Disk procs.new disk.new) }
 {
     prove!(graph.len() <= FILE_LIMIT as u64);
-    match open_store::<K, O, D>(alloc, opener, disk, graph, options.clean) {
-        Ok(
-            SeatedStore {
-                mut store,
-                mut seats,
-            },
-        ) => match build_marks(
+    match open_store::<K, D>(alloc, disk, graph, options.clean) {
+        Ok(mut store) => match build_marks(
             alloc,
             graph,
             &mut store,
             disk,
             procs,
-            &mut seats,
             options.slots,
             options.keep_going,
         ) {
             Ok(marks) => Ok(Kept { marks, store }),
             Err(fault) => Err(fault),
         },
-        Err(StoreFault::NoMemory) => Err(BuildFault::NoMemory),
-        Err(StoreFault::DiskFailed) => Err(BuildFault::DiskFailed),
+        Err(StoreFault::NoMemory) => Err(RunFault::NoMemory),
+        Err(StoreFault::DiskFailed) => Err(RunFault::DiskFailed),
     }
 }
 
 /// Opens the store of a disk, and builds over its records.
-pub fn build_over<'g, K: Records + Drop, O: Opener<'g, K>, D: Disk, P: Procs>(
+pub fn build_over<'g, K: Records + OpenRecords<'g> + Drop, D: Disk, P: Procs>(
     alloc: Global,
     graph: &'g Graph,
     options: BuildOptions,
-    opener: &O,
     disk: &mut D,
     procs: &mut P,
-) -> Result<MarkList, BuildFault>
+) -> Result<MarkList, RunFault>
     requires slots { (1 ≤ options.slots) × (options.slots ≤ SLOT_LIMIT) }
     requires idle { P.running procs.old ≡ [] }
     ensures running { P.running procs.new ≡ [] }
@@ -176,7 +164,7 @@ pub fn build_over<'g, K: Records + Drop, O: Opener<'g, K>, D: Disk, P: Procs>(
         (build_counts P.Procs D.Disk procs.old disk.old)
         (build_counts P.Procs D.Disk procs.new disk.new) }
 {
-    match build_kept::<K, O, D, P>(alloc, graph, options, opener, disk, procs) {
+    match build_kept::<K, D, P>(alloc, graph, options, disk, procs) {
         Ok(
             Kept {
                 marks,

@@ -2,7 +2,5 @@
 #![tactic(auto)]
 
 mod building;
-mod opener;
 
 pub use building::{BuildOptions, Kept, build_kept, build_over};
-pub use opener::{AsStored, Opener, SeatedStore};

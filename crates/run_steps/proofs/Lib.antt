@@ -2,3 +2,4 @@
 pub mod ChildLists
 pub mod PlainSteps
 pub mod Halting
+pub mod CountsAtFirst

@@ -2,7 +2,9 @@
 #![tactic(auto)]
 
 mod child;
+mod fault;
 mod step;
 
 pub use child::{Child, has_ticket, index_of};
+pub use fault::{RunFault, note};
 pub use step::Step;

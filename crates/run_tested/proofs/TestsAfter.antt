@@ -22,7 +22,7 @@ use Rattle.run_spec.specs.Marks.{marks_of}
 use Rattle.run_spec.proofs.Journal.{since-added}
 use Rattle.run_spec.proofs.Parts.{all_compiled}
 use Rattle.run_histories.specs.Histories.{Order, work_over}
-use Rattle.build_loop.specs.declared.faults.BuildFault.{BuildFault}
+use Rattle.run_steps.specs.declared.fault.RunFault.{RunFault}
 use Rattle.build_loop.specs.Requests as compiling
 use Rattle.build_loop.specs.Ran.{built_by, is_made}
 use Rattle.run_build.proofs.LentFiles.{item_at, made_at}
@@ -84,7 +84,7 @@ module _ (tells : Type 0) (answer : Request → Exit) (setting : TestSetting) (m
   }
 
   -- a fault ended them
-  pub tests_failed : (fault : BuildFault) (Says : List Event → Type 0) → TestsRan tells answer setting old new false Says → RanBuilt tells answer setting marks (Err fault) old new
+  pub tests_failed : (fault : RunFault) (Says : List Event → Type 0) → TestsRan tells answer setting old new false Says → RanBuilt tells answer setting marks (Err fault) old new
   tests_failed fault Says ran = record {
     events = ran.events;
     journal = ran.journal;
@@ -100,11 +100,11 @@ nothing [] h = refl
 nothing (event ∷ events) h = absurd (h (λ e. let no_list : ⊥ = cc in no_list))
 
 -- what runs of tests after a build are, over either name of what was built
-record Known (setting : TestSetting) (marks : List Mark) (result : Result Tested BuildFault) (tests : List Event) : Type 0 where
+record Known (setting : TestSetting) (marks : List Mark) (result : Result Tested RunFault) (tests : List Event) : Type 0 where
   lawful : LawfulTests setting tests
   gives : IfOk result (λ tested. (tested.marks ≡ marks) × SaysTests setting (list_all is_made marks) tested.tests tests)
 
-left_out : (one other : TestSetting) (marks : List Mark) (result : Result Tested BuildFault) (tests : List Event) → list_all is_made marks ≡ false → IfOk result (λ tested. (tested.marks ≡ marks) × SaysTests one (list_all is_made marks) tested.tests tests) →
+left_out : (one other : TestSetting) (marks : List Mark) (result : Result Tested RunFault) (tests : List Event) → list_all is_made marks ≡ false → IfOk result (λ tested. (tested.marks ≡ marks) × SaysTests one (list_all is_made marks) tested.tests tests) →
     IfOk result (λ tested. (tested.marks ≡ marks) × SaysTests other (list_all is_made marks) tested.tests tests)
 left_out one other marks (Err why) tests left gives = tt
 left_out one other marks (Ok tested) tests left gives = (gives.0, by_tests tested.tests gives.1) where
@@ -113,13 +113,13 @@ left_out one other marks (Ok tested) tests left gives = (gives.0, by_tests teste
   by_tests (Some end) says = absurd (false≢true (sym left ∙ says.0))
 
 -- an answer, with its type
-abbrev said : List Mark → Result (List Mark) BuildFault
+abbrev said : List Mark → Result (List Mark) RunFault
 said marks = Ok marks
 
-abbrev failed_by : BuildFault → Result Tested BuildFault
+abbrev failed_by : RunFault → Result Tested RunFault
 failed_by fault = Err fault
 
-said_after : (order : Order) (plan : TestPlan) (work : Work) (compiled tests : List Event) (marks : List Mark) (result : Result Tested BuildFault) →
+said_after : (order : Order) (plan : TestPlan) (work : Work) (compiled tests : List Event) (marks : List Mark) (result : Result Tested RunFault) →
     IfOk result (λ tested. (tested.marks ≡ marks) × SaysTests (setting_after order plan work compiled) (list_all is_made marks) tested.tests tests) →
     IfOk result (λ tested. (said marks ≡ said tested.marks) × SaysTests (setting_after order plan work compiled) (list_all is_made tested.marks) tested.tests tests)
 said_after order plan work compiled tests marks (Err why) gives = tt
@@ -133,7 +133,7 @@ module _ (records_of : Image → List Record) (answer : Request → Exit) (order
   work = work_over records_of order first.now
 
   -- a build that ended by itself, and then its tests: the events of its compilers are those of the build
-  after_build : (marks : List Mark) (result : Result Tested BuildFault) (files : List BuiltFile) → middle ≡ old ++ since old middle → BuildsOver records_of answer order (Ok marks) failed first last (since old middle) →
+  after_build : (marks : List Mark) (result : Result Tested RunFault) (files : List BuiltFile) → middle ≡ old ++ since old middle → BuildsOver records_of answer order (Ok marks) failed first last (since old middle) →
       (list_all is_made marks ≡ true → files ≡ built_by work (since old middle)) → (tells : Type 0) → tells → RanBuilt tells answer (record { plan = plan; built = files; slots = order.slots }) marks result middle new →
       (over : TestsOver records_of answer order plan result failed first last (since old new)) × (over.compiled ≡ since old middle)
   after_build marks result files follows builds lent tells t ran =
@@ -170,12 +170,12 @@ module _ (records_of : Image → List Record) (answer : Request → Exit) (order
         refl,
       )
 
-  pub tested_after : (marks : List Mark) (result : Result Tested BuildFault) (files : List BuiltFile) → middle ≡ old ++ since old middle → BuildsOver records_of answer order (Ok marks) failed first last (since old middle) →
+  pub tested_after : (marks : List Mark) (result : Result Tested RunFault) (files : List BuiltFile) → middle ≡ old ++ since old middle → BuildsOver records_of answer order (Ok marks) failed first last (since old middle) →
       (list_all is_made marks ≡ true → files ≡ built_by work (since old middle)) → (tells : Type 0) → tells → RanBuilt tells answer (record { plan = plan; built = files; slots = order.slots }) marks result middle new →
       TestsOver records_of answer order plan result failed first last (since old new)
   tested_after marks result files follows builds lent tells t ran = (after_build marks result files follows builds lent tells t ran).0
 
-  pub compilers_after : (marks : List Mark) (result : Result Tested BuildFault) (files : List BuiltFile) → middle ≡ old ++ since old middle → BuildsOver records_of answer order (Ok marks) failed first last (since old middle) →
+  pub compilers_after : (marks : List Mark) (result : Result Tested RunFault) (files : List BuiltFile) → middle ≡ old ++ since old middle → BuildsOver records_of answer order (Ok marks) failed first last (since old middle) →
       (list_all is_made marks ≡ true → files ≡ built_by work (since old middle)) → (tells : Type 0) → tells → RanBuilt tells answer (record { plan = plan; built = files; slots = order.slots }) marks result middle new →
       compile_part (since old new) ≡ since old middle
   compilers_after marks result files follows builds lent tells t ran =
@@ -183,7 +183,7 @@ module _ (records_of : Image → List Record) (answer : Request → Exit) (order
       after.0.compilers ∙ after.1
 
   -- a build that a fault ended
-  pub build_failed : (fault : BuildFault) → BuildsOver records_of answer order (Err fault) failed first last (since old new) → test_part (since old new) ≡ [] → TestsOver records_of answer order plan (Err fault) failed first last (since old new)
+  pub build_failed : (fault : RunFault) → BuildsOver records_of answer order (Err fault) failed first last (since old new) → test_part (since old new) ≡ [] → TestsOver records_of answer order plan (Err fault) failed first last (since old new)
   unfolding EachAfter
   build_failed fault builds none =
       let compiled : List Event = since old new in

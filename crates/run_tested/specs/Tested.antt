@@ -11,7 +11,7 @@ use Rattle.run_spec.specs.ChildJournal.{Work, EachAfter, HasFreshTicket, Answere
 use Rattle.run_spec.specs.JournalParts.{compile_part, test_part}
 use Rattle.run_spec.specs.Marks.{marks_of}
 use Rattle.run_histories.specs.Histories.{Order, work_over}
-use Rattle.build_loop.specs.declared.faults.BuildFault.{BuildFault}
+use Rattle.run_steps.specs.declared.fault.RunFault.{RunFault}
 use Rattle.build_loop.specs.Ran.{built_by, is_made}
 use Rattle.run_build.specs.Building.{BuildsOver}
 use Rattle.test_spec.specs.declared.ends.TestEnd.{TestEnd}
@@ -25,7 +25,7 @@ SaysTests setting made None events = made ≡ false
 SaysTests setting made (Some end) events = (made ≡ true) × IsWholeTests setting events × (end.runs ≡ test_ends setting events)
 
 -- What runs of tests did after a build with these marks. None is started where a file isn't made.
-pub record RanBuilt (tells : Type 0) (answer : Request → Exit) (setting : TestSetting) (marks : List Mark) (result : Result Tested BuildFault) (old new : List Event) : Type 0 where
+pub record RanBuilt (tells : Type 0) (answer : Request → Exit) (setting : TestSetting) (marks : List Mark) (result : Result Tested RunFault) (old new : List Event) : Type 0 where
   pub events : List Event
   pub journal : tells → new ≡ old ++ events
   pub made : (events ≡ [] → ⊥) → list_all is_made marks ≡ true
@@ -42,17 +42,17 @@ setting_after order plan work compiled = record { plan = plan; built = built_by 
 -- tests. These are lawful runs of the plan over exactly what was built, on every answer, and each end is the answer to its
 -- start. None is started where a file isn't made, nor after a fault of the build, which is the answer then. Where there is no
 -- fault, what is said are the marks of the build, and, where each file is made, what became of all runs.
-pub record TestsOver (records_of : Image → List Record) (answer : Request → Exit) (order : Order) (plan : TestPlan) (result : Result Tested BuildFault) (disk_failed : Bool) (old new : Moments) (events : List Event) : Type 0 where
+pub record TestsOver (records_of : Image → List Record) (answer : Request → Exit) (order : Order) (plan : TestPlan) (result : Result Tested RunFault) (disk_failed : Bool) (old new : Moments) (events : List Event) : Type 0 where
   pub compiled : List Event
   pub tests : List Event
   pub parted : events ≡ compiled ++ tests
   pub compilers : compile_part events ≡ compiled
   pub simulators : test_part events ≡ tests
-  pub build : Result (List Mark) BuildFault
+  pub build : Result (List Mark) RunFault
   pub builds : BuildsOver records_of answer order build disk_failed old new compiled
   pub made : (tests ≡ [] → ⊥) → list_all is_made (marks_of (work_over records_of order old.now) compiled) ≡ true
   pub lawful : LawfulTests (setting_after order plan (work_over records_of order old.now) compiled) tests
   pub answered : Answered answer tests
   pub gives : IfOk result (λ tested. (build ≡ Ok tested.marks)
       × SaysTests (setting_after order plan (work_over records_of order old.now) compiled) (list_all is_made tested.marks) tested.tests tests)
-  pub stops : (fault : BuildFault) → build ≡ Err fault → (result ≡ Err fault) × (tests ≡ [])
+  pub stops : (fault : RunFault) → build ≡ Err fault → (result ≡ Err fault) × (tests ≡ [])

@@ -8,7 +8,7 @@ ghost use Rattle.run_spec.specs.declared.marks.Mark.{Mark};
 ghost use Rattle.run_spec.specs.ChildJournal.{since};
 ghost use Rattle.run_spec.specs.JournalParts.{compile_part};
 ghost use Rattle.build_loop.specs.Ran.{is_made};
-ghost use Rattle.build_loop.specs.Faults.{Explains, fault_of};
+ghost use Rattle.run_steps.specs.Faults.{Explains, fault_of};
 ghost use Rattle.run_build.specs.Building.{RestsOver, has_risen};
 ghost use Rattle.run_build.specs.Orders.{order_by};
 ghost use Rattle.test_spec.specs.Runs.{FitsRun};
@@ -17,12 +17,12 @@ ghost use Rattle.test_loop.specs.UnderWay.{tests_with};
 ghost use Rattle.run_tested.specs.Tested.{RanBuilt, TestsOver};
 
 use base::{CASE_LIMIT, Graph, SLOT_LIMIT, TextList};
-use build_loop::BuildFault;
-use outside::{Disk, Procs, Records};
-use run_build::{BuildOptions, Kept, Opener, build_kept};
+use outside::{Disk, OpenRecords, Procs, Records};
+use run_build::{BuildOptions, Kept, build_kept};
 use run_spec::{Mark, MarkList};
+use run_steps::RunFault;
 use std::alloc::Global;
-use test_loop::{TestRunFault, announce_long_runs, run_tests};
+use test_loop::{announce_long_runs, run_tests};
 use test_spec::{TestEnd, TestRunList};
 
 /// What became of the files of a graph that was built, and of the tests that followed.
@@ -62,7 +62,7 @@ fn test_built<K: Records + Drop, P: Procs>(
     procs: &mut P,
     slots: u32,
     fail_fast: bool,
-) -> Result<Tested, BuildFault>
+) -> Result<Tested, RunFault>
     requires slots { (1 ≤ slots) × (slots ≤ SLOT_LIMIT) }
     requires idle { P.running procs.old ≡ [] }
     requires few { length runs.now ≤ CASE_LIMIT }
@@ -95,24 +95,21 @@ fn test_built<K: Records + Drop, P: Procs>(
             marks,
             tests: Some(end),
         }),
-        Err(TestRunFault::NoMemory) => Err(BuildFault::NoMemory),
-        Err(TestRunFault::StartFailed) => Err(BuildFault::StartFailed),
-        Err(TestRunFault::ChildLost) => Err(BuildFault::ChildLost),
+        Err(fault) => Err(fault),
     }
 }
 
 /// Opens the store of a disk, builds a graph over its records, and then runs tests, as `test_over` does.
-fn test_opened<'g, K: Records + Drop, O: Opener<'g, K>, D: Disk, P: Procs>(
+fn test_opened<'g, K: Records + OpenRecords<'g> + Drop, D: Disk, P: Procs>(
     alloc: Global,
     graph: &'g Graph,
     options: BuildOptions,
     runs: &TestRunList,
     simulator: &TextList,
     fail_fast: bool,
-    opener: &O,
     disk: &mut D,
     procs: &mut P,
-) -> Result<Tested, BuildFault>
+) -> Result<Tested, RunFault>
     requires slots { (1 ≤ options.slots) × (options.slots ≤ SLOT_LIMIT) }
     requires idle { P.running procs.old ≡ [] }
     requires few { length runs.now ≤ CASE_LIMIT }
@@ -141,7 +138,7 @@ fn test_opened<'g, K: Records + Drop, O: Opener<'g, K>, D: Disk, P: Procs>(
         (build_counts P.Procs D.Disk procs.old disk.old)
         (build_counts P.Procs D.Disk procs.new disk.new) }
 {
-    match build_kept::<K, O, D, P>(alloc, graph, options, opener, disk, procs) {
+    match build_kept::<K, D, P>(alloc, graph, options, disk, procs) {
         Ok(kept) => test_built(
             alloc,
             graph,
@@ -161,17 +158,16 @@ fn test_opened<'g, K: Records + Drop, O: Opener<'g, K>, D: Disk, P: Procs>(
 /// as the build has. With `fail_fast` nothing more is started after the first run of which not all cases passed. After a
 /// fault nothing more is started; the first fault is answered. No child runs in the end. Before all that it announces the runs
 /// whose folder may have too long a name.
-pub fn test_over<'g, K: Records + Drop, O: Opener<'g, K>, D: Disk, P: Procs>(
+pub fn test_over<'g, K: Records + OpenRecords<'g> + Drop, D: Disk, P: Procs>(
     alloc: Global,
     graph: &'g Graph,
     options: BuildOptions,
     runs: &TestRunList,
     simulator: &TextList,
     fail_fast: bool,
-    opener: &O,
     disk: &mut D,
     procs: &mut P,
-) -> Result<Tested, BuildFault>
+) -> Result<Tested, RunFault>
     requires slots { (1 ≤ options.slots) × (options.slots ≤ SLOT_LIMIT) }
     requires idle { P.running procs.old ≡ [] }
     requires few { length runs.now ≤ CASE_LIMIT }
@@ -201,7 +197,7 @@ pub fn test_over<'g, K: Records + Drop, O: Opener<'g, K>, D: Disk, P: Procs>(
         (build_counts P.Procs D.Disk procs.new disk.new) }
 {
     announce_long_runs(alloc, runs, procs);
-    test_opened::<K, O, D, P>(
-        alloc, graph, options, runs, simulator, fail_fast, opener, disk, procs,
+    test_opened::<K, D, P>(
+        alloc, graph, options, runs, simulator, fail_fast, disk, procs,
     )
 }

@@ -27,7 +27,7 @@ use Rattle.run_laws.proofs.JournalSettled.{made_settled_so_far}
 use Rattle.run_histories.specs.Histories.{Order, World, Sources, IsReadable, work_over}
 use Rattle.run_laws.proofs.RightRuns.{run_clean}
 use Rattle.build_loop.specs.Ran.{built_by, is_made}
-use Rattle.build_loop.specs.declared.faults.BuildFault.{BuildFault}
+use Rattle.run_steps.specs.declared.fault.RunFault.{RunFault}
 use Rattle.run_build.proofs.LentFiles.{item_at, made_at}
 use Rattle.test_journal.specs.TestJournal.{TestPlan}
 use Rattle.run_tested.specs.declared.testing.Tested.{Tested}
@@ -71,7 +71,7 @@ abbrev world_of : (Request → Exit) → (Image → List Record) → World
 world_of answer records_of = record { answer = answer; records_of = records_of; reading = λ words sources. None }
 
 -- from a disk of true records tests start over these libraries
-pub tests_clean : (records_of : Image → List Record) (answer : Request → Exit) (order : Order) (plan : TestPlan) (result : Result Tested BuildFault) (failed : Bool) (old new : Moments) (events : List Event) → IsReadable old.now →
+pub tests_clean : (records_of : Image → List Record) (answer : Request → Exit) (order : Order) (plan : TestPlan) (result : Result Tested RunFault) (failed : Bool) (old new : Moments) (events : List Event) → IsReadable old.now →
     IsFaithfulDisk answer records_of old.now → (over : TestsOver records_of answer order plan result failed old new events) → (over.tests ≡ [] → ⊥) →
     (setting_after order plan (work_over records_of order old.now) over.compiled).built ≡ libraries answer order.graph
 tests_clean records_of answer order plan result failed old new events readable faithful over some =

@@ -14,7 +14,7 @@ ghost use Rattle.run_spec.specs.Faithful.{IsFaithfulDisk};
 ghost use Rattle.run_spec.specs.Marks.{marks_of};
 ghost use Rattle.run_histories.specs.Histories.{Order, IsReadable, work_over};
 ghost use Rattle.build_loop.specs.Ran.{built_by, is_made};
-ghost use Rattle.build_loop.specs.declared.faults.BuildFault.{BuildFault};
+ghost use Rattle.run_steps.specs.declared.fault.RunFault.{RunFault};
 ghost use Rattle.test_journal.specs.TestJournal.{TestPlan};
 ghost use Rattle.run_tested.specs.declared.testing.Tested.{Tested};
 ghost use Rattle.run_tested.specs.Tested.{TestsOver, setting_after};
@@ -31,7 +31,7 @@ pub fn laws_of_libraries()
         built_by work events ≡ libraries answer work.graph }
     // So from a disk of true records each test starts over these, whatever the answer is.
     ensures tests { (records_of : Image → List Record) (answer : Request → Exit) (order : Order)
-        (plan : TestPlan) (result : Result Tested BuildFault) (failed : Bool)
+        (plan : TestPlan) (result : Result Tested RunFault) (failed : Bool)
         (old new : Moments) (events : List Event) →
         IsReadable old.now →
         IsFaithfulDisk answer records_of old.now →

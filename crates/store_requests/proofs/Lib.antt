@@ -8,3 +8,4 @@ pub mod Carried
 pub mod Commits
 pub mod ArtefactSizes
 pub mod TakingOver
+pub mod OnAny

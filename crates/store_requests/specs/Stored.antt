@@ -1,5 +1,5 @@
 -- The records of a store of requests.
-use Rattle.std.specs.Prelude.{◌≡◌, ℕ, ◌+◌, ◌-◌, ◌^◌, ◌<◌, min, Bool, true, false, List, length, Option, Some, Result, Ok, Err, slice_index_or, if◌then◌else◌}
+use Rattle.std.specs.Prelude.{◌≡◌, ℕ, ◌+◌, ◌-◌, ◌^◌, ◌<◌, min, Bool, true, false, List, [], length, Option, Some, Result, Ok, Err, slice_index_or, if◌then◌else◌}
 use Rattle.std.specs.List.{flat_map}
 use Rattle.std.specs.Option.{option_map_or}
 use Rattle.base.specs.declared.file.FileName.{FileName}
@@ -18,14 +18,18 @@ use Rattle.store_codec.specs.Shelves.{drafted_record, request_shelf_of, requests
 use Rattle.store_holdings.specs.declared.additions.RequestAddition.{RequestAddition}
 use Rattle.store_holdings.specs.Additions.{AddsRequest, added_name, no_entry}
 use Rattle.store_holdings.specs.Held.{HeldState}
+use Rattle.store_holdings.specs.Seated.{AreSeats}
+use Rattle.store_holdings.specs.declared.seats.Seat.{Seat}
 use Rattle.store_node_codec.specs.Shelves.{shelf_of as node_shelf_of}
 use Rattle.store_migration.specs.Migrating.{migrated_requests}
 use Rattle.store_takeover.specs.Taking.{taken_payloads}
 
--- a store: what its journal knows of the disk, and the payloads with the names and the room that it has
+-- a store: what its journal knows of the disk, the payloads with the names and the room that it has, and where it found the
+-- files of the graph that it was opened over
 pub record RequestStoreState : Type 0 where
   pub journal : JournalState
   pub held : HeldState
+  pub seats : List (Option Seat)
 
 -- a record that is ready to be committed: its payload, and what that adds
 pub record PreparedState : Type 0 where
@@ -48,15 +52,27 @@ requests_in image = if older_counts 3 2 image then migrated_requests (node_shelf
 abbrev pub kept_payloads : Image → List (List ℕ)
 kept_payloads image = if older_counts 3 2 image then taken_payloads (payloads 2 image) else payloads 3 image
 
--- a store of this journal and these payloads
+-- a store of this journal and these payloads that has found these files
+abbrev pub store_with : JournalState → HeldState → List (Option Seat) → RequestStoreState
+store_with journal held seats = record { journal = journal; held = held; seats = seats }
+
+-- a store of this journal and these payloads that has looked up no file yet
 abbrev pub store_of : JournalState → HeldState → RequestStoreState
-store_of journal held = record { journal = journal; held = held }
+store_of journal held = store_with journal held []
 
 -- The journal, of form 3, is in step with the disk, and the payloads are the disk's.
-pub record IsRequestStoreInStep (store : RequestStoreState) (disk : DiskState) : Type 0 where
-  pub journal_in_step : IsInStep store.journal disk
-  pub form : store.journal.form ≡ 3
-  pub payloads_are : store.held.payloads ≡ payloads 3 (reads_of disk)
+pub record ArePartsInStep (journal : JournalState) (held : HeldState) (disk : DiskState) : Type 0 where
+  pub journal_in_step : IsInStep journal disk
+  pub form : journal.form ≡ 3
+  pub payloads_are : held.payloads ≡ payloads 3 (reads_of disk)
+
+-- a store that is in step with the disk, whichever files it has looked up
+abbrev pub IsRequestStoreInStep : RequestStoreState → DiskState → Type 0
+IsRequestStoreInStep store disk = ArePartsInStep store.journal store.held disk
+
+-- a store that has looked up the files of a graph: it knows the latest record of each, if there is one
+abbrev pub IsOver : RequestStoreState → List Entry → Type 0
+IsOver store graph = AreSeats (request_shelf_of store.held.payloads) graph store.seats
 
 -- all the records, or the latest alone
 abbrev pub AreAllOrLatest : List RequestRecord → List RequestRecord → Type 0

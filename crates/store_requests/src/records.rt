@@ -1,21 +1,16 @@
 //! The store of requests as a store of records.
 
-ghost use Rattle.store_codec.specs.Shelves.{request_shelf_of};
 ghost use Rattle.store_holdings.specs.Held.{latest_held};
-ghost use Rattle.store_holdings.specs.Seated.{AreSeats};
-ghost use Rattle.store_requests.specs.Stored.{IsRequestReady, IsRequestStoreInStep, IsResting, prepared_record, requests_in};
+ghost use Rattle.store_requests.specs.Stored.{IsOver, IsRequestReady, IsRequestStoreInStep, IsResting, prepared_record, requests_in};
 ghost use Rattle.store_requests.specs.StoreLaws.{request_store_durable, request_store_held};
 
 use crate::store::{PreparedRequest, RequestStore};
 use base::{DiskFailed, FileName, Graph, NoMemory, Text};
-use outside::{Disk, Records, StoreFault};
+use outside::{Disk, OpenRecords, Records, StoreFault};
 use std::alloc::Global;
-use store_holdings::Seats;
 
 impl<'g> Records for RequestStore<'g> {
     type Prepared = PreparedRequest;
-
-    type Seats = Seats;
 
     ghost records_of = { requests_in };
 
@@ -33,27 +28,14 @@ impl<'g> Records for RequestStore<'g> {
 
     ghost position_of = { λ prepared. prepared.addition.at };
 
-    ghost is_seated = { λ store graph seats.
-        AreSeats (request_shelf_of store.held.payloads) graph seats };
+    ghost is_over = { λ store graph. IsOver store graph };
 
-    fn from_disk<D: Disk>(alloc: Global, disk: &mut D) -> Result<RequestStore<'g>, StoreFault> {
-        RequestStore::open(alloc, disk, &[])
+    fn fits(&self, graph: &Graph, at: u32) -> bool {
+        RequestStore::fits(self, graph, at)
     }
 
-    fn emptied<D: Disk>(alloc: Global, disk: &mut D) -> Result<RequestStore<'g>, StoreFault> {
-        RequestStore::emptied(alloc, disk)
-    }
-
-    fn seats(&mut self, alloc: Global, graph: &Graph) -> Result<Seats, NoMemory> {
-        RequestStore::seats(self, alloc, graph)
-    }
-
-    fn fits(&self, seats: &Seats, graph: &Graph, at: u32) -> bool {
-        RequestStore::fits(self, seats, graph, at)
-    }
-
-    fn artefact_at(&self, seats: &Seats, graph: &Graph, at: u32) -> Option<&[u8]> {
-        RequestStore::artefact_at(self, seats, graph, at)
+    fn artefact_at(&self, graph: &Graph, at: u32) -> Option<&[u8]> {
+        RequestStore::artefact_at(self, graph, at)
     }
 
     fn artefact(&self, name: &FileName) -> Option<&[u8]> {
@@ -63,21 +45,19 @@ impl<'g> Records for RequestStore<'g> {
     fn prepare(
         &mut self,
         alloc: Global,
-        seats: &Seats,
         graph: &Graph,
         at: u32,
         artefact: &Text,
     ) -> Result<PreparedRequest, NoMemory> {
-        RequestStore::prepare(self, alloc, seats, graph, at, artefact)
+        RequestStore::prepare(self, alloc, graph, at, artefact)
     }
 
     fn commit<D: Disk>(
         &mut self,
         disk: &mut D,
         prepared: PreparedRequest,
-        seats: &mut Seats,
     ) -> Result<(), DiskFailed> {
-        RequestStore::commit(self, disk, prepared, seats)
+        RequestStore::commit(self, disk, prepared)
     }
 
     fn is_broken(&self) -> bool {
@@ -87,4 +67,22 @@ impl<'g> Records for RequestStore<'g> {
     ghost durable = { λ store disk in_step. request_store_durable store disk in_step };
 
     ghost held = { λ store disk name in_step. request_store_held store disk name in_step };
+}
+
+impl<'g> OpenRecords<'g> for RequestStore<'g> {
+    fn open<D: Disk>(
+        alloc: Global,
+        disk: &mut D,
+        graph: &'g Graph,
+    ) -> Result<RequestStore<'g>, StoreFault> {
+        RequestStore::open(alloc, disk, graph)
+    }
+
+    fn emptied<D: Disk>(
+        alloc: Global,
+        disk: &mut D,
+        graph: &'g Graph,
+    ) -> Result<RequestStore<'g>, StoreFault> {
+        RequestStore::emptied(alloc, disk, graph)
+    }
 }

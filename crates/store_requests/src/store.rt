@@ -1,6 +1,6 @@
 //! The store of requests over a journal.
 
-ghost use Rattle.std.specs.Prelude.{◌≡◌, ◌↔◌, ◌+◌, ◌<◌, ◌≤◌, ◌++◌, ◌∷◌, [], List, None, Some, option_map, length, slice_get, false, All, IfOk, IfSome, IsTrue, OnOk, is_err};
+ghost use Rattle.std.specs.Prelude.{◌≡◌, ℕ, ◌↔◌, ◌+◌, ◌<◌, ◌≤◌, ◌++◌, ◌∷◌, [], List, None, Some, option_map, length, slice_get, false, All, IfOk, IfSome, IsTrue, OnOk, is_err};
 ghost use Rattle.base.specs.Graphs.{IsGraph};
 ghost use Rattle.base.specs.declared.file.FileName.{FileName};
 ghost use Rattle.base.specs.declared.graph.Entry.{Entry};
@@ -12,8 +12,7 @@ ghost use Rattle.store_codec.specs.Shelves.{request_shelf_of};
 ghost use Rattle.store_holdings.specs.Additions.{AddsAsked};
 ghost use Rattle.store_holdings.specs.Held.{AreLentBy, latest_held};
 ghost use Rattle.outside.specs.Records.{IsRecorded as FitsLatest, HasLatest};
-ghost use Rattle.store_holdings.specs.Seated.{AreSeats};
-ghost use Rattle.store_requests.specs.Stored.{AreAllOrLatest, HasCarriedOver, HasRequestsOf, ImageAsksCarrying, IsPreparedAt, IsRequestReady, IsRequestStoreInStep, IsResting, after_committing, kept_payloads, prepared_record, requests_in};
+ghost use Rattle.store_requests.specs.Stored.{AreAllOrLatest, HasCarriedOver, HasRequestsOf, ImageAsksCarrying, IsPreparedAt, IsOver, IsRequestReady, IsRequestStoreInStep, IsResting, after_committing, kept_payloads, prepared_record, requests_in};
 
 use crate::compacting::compact_where_asked;
 use crate::reading::{EARLIER_FORM, FORM, Parts, read};
@@ -25,12 +24,14 @@ use store_holdings::{NextRequest, RequestAddition, RequestHoldings, Seats};
 use store_journal::{Journal, Payloads, Ready};
 
 /// Records of requests on a disk: what a compiler was asked, as its words, the file with its text and the files that it
-/// depends on as they were built, and the artefact that it gave. The last record of a name counts. After `DiskFailed` a store is
-/// broken until it is opened again. Contracts see what its journal knows of the disk, and what it holds.
+/// depends on as they were built, and the artefact that it gave. The last record of a name counts. A store is opened over a graph,
+/// whose files it looks up once. After `DiskFailed` it is broken until it is opened again. Contracts see what its journal knows
+/// of the disk, what it holds, and which of its records are the latest of the graph's files.
 #[derive(Drop)]
 pub struct RequestStore<'g> {
     journal: Journal,
     held: RequestHoldings<'g>,
+    seats: Seats,
 }
 
 impl<'g> Model for RequestStore<'g> {
@@ -39,7 +40,7 @@ impl<'g> Model for RequestStore<'g> {
 
     ghost Value = { RequestStoreState };
 
-    ghost view = { λ a. record { journal = a.journal; held = a.held } };
+    ghost view = { λ a. record { journal = a.journal; held = a.held; seats = a.seats } };
 
     ghost invariant = { λ a. a.journal.form ≡ 3 };
 }
@@ -59,15 +60,41 @@ impl Model for PreparedRequest {
     ghost view = { λ a. record { payload = a.ready; addition = a.addition } };
 }
 
+/// A store of a journal and what its payloads stand for, with the files of a graph looked up. Texts that it borrows are those of
+/// the graph.
+fn looked_up<'g>(
+    alloc: Global,
+    journal: Journal,
+    held: RequestHoldings<'g>,
+    graph: &Graph,
+) -> Result<RequestStore<'g>, StoreFault>
+    requires form { journal.form ≡ 3 }
+    requires lent { AreLentBy graph.now held.lent }
+    ensures journal { IfOk result (λ store. store.journal ≡ journal) }
+    ensures held { IfOk result (λ store. store.held ≡ held.entry) }
+    ensures over { IfOk result (λ store. IsOver store graph.now) }
+    ensures cause { (count : ℕ) → StoreCounts result count count }
+{
+    match held.lent_seats(alloc, graph) {
+        Ok(seats) => Ok(RequestStore {
+            journal,
+            held,
+            seats,
+        }),
+        Err(NoMemory) => Err(StoreFault::NoMemory),
+    }
+}
+
 impl<'g> RequestStore<'g> {
     /// Opens the records of a disk, whatever the disk holds; where it has a store of the earlier form alone, those of its records
     /// are taken over that stand as requests. It first syncs both sides. It compacts them where dead bytes are
-    /// more than live ones and more than 1,048,576, and there is a next generation. Of some files, one that has the name, the
-    /// words and the text of a record lends that text, which isn't held once more, until the store is compacted.
+    /// more than live ones and more than 1,048,576, and there is a next generation. A file of the graph that has the name, the
+    /// words and the text of a record lends that text, which isn't held once more, until the store is compacted. Last it looks up
+    /// the files of the graph; a lent text isn't compared with itself.
     pub fn open<D: Disk>(
         alloc: Global,
         disk: &mut D,
-        files: &'g [Entry],
+        graph: &'g Graph,
     ) -> Result<RequestStore<'g>, StoreFault>
         // At any moment, after a fault too, a stop can leave the records of an image at entry, or the latest of these.
         ensures any_moment { D.tells →
@@ -103,24 +130,29 @@ impl<'g> RequestStore<'g> {
         ensures in_step { D.tells →
             IfOk result (λ store. IsRequestStoreInStep store (D.moments disk.new).now) }
         // A text that is lent is that of the file of its number.
-        ensures lent { IfOk result (λ store. AreLentBy files.now store.held.lent) }
+        ensures lent { IfOk result (λ store. AreLentBy graph.now store.held.lent) }
         ensures usable { IfOk result (λ store. store.journal.broken ≡ false) }
+        ensures over { IfOk result (λ store. IsOver store graph.now) }
         ensures cause { StoreCounts result (D.failed_disk_calls disk.old)
             (D.failed_disk_calls disk.new) }
     {
         let Parts {
             mut journal,
             mut held,
-        } = read(alloc, disk, files)?;
+        } = read(alloc, disk, graph.as_slice())?;
         match compact_where_asked(&mut journal, &mut held, alloc, disk) {
-            Ok(()) => Ok(RequestStore { journal, held }),
+            Ok(()) => looked_up(alloc, journal, held, graph),
             Err(fault) => Err(fault),
         }
     }
 
-    /// Opens a disk without records, whatever it holds, also of the earlier form. It first syncs both sides, and takes up nothing
-    /// of what they hold.
-    pub fn emptied<D: Disk>(alloc: Global, disk: &mut D) -> Result<RequestStore<'g>, StoreFault>
+    /// Opens a disk without records, whatever it holds, also of the earlier form, for the files of a graph. It first syncs both
+    /// sides, and takes up nothing of what they hold.
+    pub fn emptied<D: Disk>(
+        alloc: Global,
+        disk: &mut D,
+        graph: &'g Graph,
+    ) -> Result<RequestStore<'g>, StoreFault>
         // Once both sides are synced, a stop can leave the records of what reads gave at entry, or none.
         ensures opens { D.tells →
             let before = requests_in (reads_of (D.moments disk.old).now) in
@@ -136,51 +168,36 @@ impl<'g> RequestStore<'g> {
         ensures in_step { D.tells →
             IfOk result (λ store. IsRequestStoreInStep store (D.moments disk.new).now) }
         ensures usable { IfOk result (λ store. store.journal.broken ≡ false) }
+        ensures over { IfOk result (λ store. IsOver store graph.now) }
         ensures cause { StoreCounts result (D.failed_disk_calls disk.old)
             (D.failed_disk_calls disk.new) }
     {
         let journal = Journal::emptied(alloc, disk, FORM, EARLIER_FORM)?;
         let held = RequestHoldings::of(alloc, Payloads::new(alloc))?;
-        Ok(RequestStore { journal, held })
-    }
-
-    /// For each file of a graph the seat of its latest record, if it has one, looked up once.
-    pub fn seats(&self, alloc: Global, graph: &Graph) -> Result<Seats, NoMemory>
-        ensures { IfOk result (AreSeats (request_shelf_of self.now.held.payloads) graph.now) }
-    {
-        self.held.seats(alloc, graph)
-    }
-
-    /// For each file of the graph whose texts are lent to the store the seat of its latest record, if it has one. A lent text isn't
-    /// compared with itself.
-    pub fn lent_seats(&self, alloc: Global, graph: &Graph) -> Result<Seats, NoMemory>
-        requires { AreLentBy graph.now self.now.held.lent }
-        ensures { IfOk result (AreSeats (request_shelf_of self.now.held.payloads) graph.now) }
-    {
-        self.held.lent_seats(alloc, graph)
+        looked_up(alloc, journal, held, graph)
     }
 
     /// Whether all files that a file depends on have a record, and its own latest record has what would be asked for it now. It
     /// takes no memory, and a time that goes by the text and the dependencies of the file alone.
-    pub fn fits(&self, seats: &Seats, graph: &Graph, at: u32) -> bool
+    pub fn fits(&self, graph: &Graph, at: u32) -> bool
         requires at { at < length graph.now }
-        requires seats { AreSeats (request_shelf_of self.now.held.payloads) graph.now seats.now }
+        requires over { IsOver self.now graph.now }
         ensures { IsTrue result ↔ FitsLatest (latest_held self.now.held.payloads) graph.now at }
     {
-        self.held.fits(seats, graph, at)
+        self.held.fits(&self.seats, graph, at)
     }
 
     /// What the compiler gave for a file by its latest record, lent; `None` exactly where it has no record. It takes no
     /// memory.
-    pub fn artefact_at(&self, seats: &Seats, graph: &Graph, at: u32) -> Option<&[u8]>
+    pub fn artefact_at(&self, graph: &Graph, at: u32) -> Option<&[u8]>
         requires at { at < length graph.now }
-        requires seats { AreSeats (request_shelf_of self.now.held.payloads) graph.now seats.now }
+        requires over { IsOver self.now graph.now }
         ensures bytes { (entry : Entry) → slice_get graph.now at ≡ Some entry →
             option_map (λ bytes. bytes.now) result
             ≡ option_map (λ kept. kept.artefact) (latest_held self.now.held.payloads entry.name) }
         ensures size { IfSome result (λ bytes. length bytes.now ≤ ARTEFACT_LIMIT) }
     {
-        self.held.artefact_at(seats, graph, at)
+        self.held.artefact_at(&self.seats, graph, at)
     }
 
     /// What the compiler gave by the latest record of a name, lent; `None` exactly where the name has no record. It
@@ -198,18 +215,18 @@ impl<'g> RequestStore<'g> {
     pub fn prepare(
         &mut self,
         alloc: Global,
-        seats: &Seats,
         graph: &Graph,
         at: u32,
         artefact: &Text,
     ) -> Result<PreparedRequest, NoMemory>
         requires at { at < length graph.now }
         requires artefact { length artefact.now ≤ ARTEFACT_LIMIT }
-        requires seats { AreSeats (request_shelf_of self.old.held.payloads) graph.now seats.now }
+        requires over { IsOver self.old graph.now }
         requires built { All (HasLatest (latest_held self.old.held.payloads) graph.now)
             (deps_at graph.now at) }
         ensures payloads { self.new.held.payloads ≡ self.old.held.payloads }
         ensures journal { self.new.journal ≡ self.old.journal }
+        ensures seats { self.new.seats ≡ self.old.seats }
         ensures in_step { (disk : DiskState) →
             IsRequestStoreInStep self.old disk → IsRequestStoreInStep self.new disk }
         ensures ready { IfOk result (IsRequestReady self.new.held) }
@@ -219,32 +236,31 @@ impl<'g> RequestStore<'g> {
             prepared.payload prepared.addition) }
         ensures at { IfOk result (IsPreparedAt graph.now at) }
     {
-        let NextRequest { piece, addition } = self.held.prepare(alloc, seats, graph, at, artefact)?;
+        let NextRequest { piece, addition } = self
+            .held
+            .prepare(alloc, &self.seats, graph, at, artefact)?;
         Ok(PreparedRequest {
             ready: piece,
             addition,
         })
     }
 
-    /// Adds a prepared record, and seats it in the place of the one before. It takes no memory.
+    /// Adds a prepared record, which is then the latest of its file. It takes no memory.
     pub fn commit<D: Disk>(
         &mut self,
         disk: &mut D,
         prepared: PreparedRequest,
-        seats: &mut Seats,
     ) -> Result<(), DiskFailed>
         requires usable { self.old.journal.broken ≡ false }
         requires ready { IsRequestReady self.old.held prepared }
-        requires seat { prepared.addition.at < length seats.old }
+        requires seat { prepared.addition.at < length self.old.seats }
         requires in_step { D.tells → IsRequestStoreInStep self.old (D.moments disk.old).now }
         ensures latest { (name : FileName) →
             latest_held self.new.held.payloads name
             ≡ after_committing result (prepared_record self.old.held.payloads prepared)
             (latest_held self.old.held.payloads) name }
-        ensures seats { (graph : List Entry) → IsGraph graph →
-            AreSeats (request_shelf_of self.old.held.payloads) graph seats.old →
-            IsPreparedAt graph prepared.addition.at prepared →
-            AreSeats (request_shelf_of self.new.held.payloads) graph seats.new }
+        ensures over { (graph : List Entry) → IsGraph graph → IsOver self.old graph →
+            IsPreparedAt graph prepared.addition.at prepared → IsOver self.new graph }
         ensures in_step { D.tells →
             OnOk result (IsRequestStoreInStep self.new (D.moments disk.new).now) }
         ensures added { D.tells →
@@ -269,7 +285,7 @@ impl<'g> RequestStore<'g> {
     {
         let PreparedRequest { ready, addition } = prepared;
         self.journal.commit(disk, &ready)?;
-        self.held.put(addition, ready, seats);
+        self.held.put(addition, ready, &mut self.seats);
         Ok(())
     }
 

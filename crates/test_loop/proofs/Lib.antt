@@ -1,6 +1,5 @@
 -- The lemmas.
 mod Lent
-mod Counting
 mod Found
 mod TestsThen
 pub mod FreshTickets

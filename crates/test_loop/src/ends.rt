@@ -1,6 +1,6 @@
 //! The end of one run.
 
-ghost use Rattle.std.specs.Prelude.{◌≡◌, ◌<◌, ◌++◌, ◌∷◌, [], ℕ, Bool, List, Some, Err, length, Contains, is_some};
+ghost use Rattle.std.specs.Prelude.{◌≡◌, ◌<◌, ◌++◌, ◌∷◌, [], ℕ, Bool, List, Some, Err, length, Contains, is_some, false};
 ghost use Rattle.base.specs.declared.child.Request.{Request};
 ghost use Rattle.base.specs.declared.child.Exit.{Exit};
 ghost use Rattle.base.specs.declared.child.Event.{Event};
@@ -8,19 +8,18 @@ ghost use Rattle.base.specs.declared.child.Event.TheVariants as event;
 ghost use Rattle.base.specs.declared.graph.BuiltFile.{BuiltFile};
 ghost use Rattle.outside.specs.Children.{without, ended_ticket, end_event};
 ghost use Rattle.outside.specs.Counts.{ChildCounts};
-ghost use Rattle.outside.specs.FaultCounts.{ChildFaultCounts, child_counts};
+ghost use Rattle.outside.specs.FaultCounts.{BuildFaultCounts, child_counts};
 ghost use Rattle.run_steps.specs.declared.step.Step.TheVariants.{Wait};
 ghost use Rattle.test_spec.specs.declared.ends.RunEnd.{RunEnd};
 ghost use Rattle.test_row.specs.Rows.{next_of, tickets_of, run_count, to_come};
 ghost use Rattle.test_journal.specs.TestJournal.{TestSetting};
-ghost use Rattle.test_loop.specs.Faults.{TestsCountBy, noted_with};
+ghost use Rattle.run_steps.specs.Faults.{CountsBy, noted_with};
 ghost use Rattle.test_loop.specs.UnderWay.{AreUnderWay, Goes, tests_with};
 
-use crate::faults::TestRunFault;
-use crate::notes::note;
 use crate::results::{ended_run, has_passed};
 use base::Exit;
 use outside::{Ended, Procs, WaitFault};
+use run_steps::{RunFault, note};
 use std::alloc::Global;
 use test_row::Row;
 use test_spec::{RunEnd, TestRunList};
@@ -33,7 +32,7 @@ fn take_exit(
     exit: &Exit,
     row: &mut Row,
     found: &mut Vec<RunEnd>,
-    noted: &mut Option<TestRunFault>,
+    noted: &mut Option<RunFault>,
 )
     requires runs { Contains (tickets_of row.old) ticket }
     requires step { next_of row.old ≡ Wait }
@@ -49,8 +48,8 @@ fn take_exit(
         AreUnderWay setting events row.old found.old.items (is_some noted.old) →
         AreUnderWay setting (events ++ event.Ended ticket exit.now ∷ []) row.new found.new.items
         (is_some noted.new) }
-    ensures counts { (first now : ChildFaultCounts) →
-        TestsCountBy noted.old first now → TestsCountBy noted.new first now }
+    ensures counts { (first now : BuildFaultCounts) →
+        CountsBy noted.old false first now → CountsBy noted.new false first now }
 {
     let at = row.run_of(ticket);
     let run = runs.get(at as u64);
@@ -62,13 +61,13 @@ fn take_exit(
         }
         Err(_fault) => {
             row.given_up(ticket);
-            note(noted, TestRunFault::NoMemory);
+            note(noted, RunFault::NoMemory);
         }
     }
 }
 
 /// The end of a child is lost: nothing more is started.
-fn lose(row: &mut Row, noted: &mut Option<TestRunFault>, ticket: u64, fault: TestRunFault)
+fn lose(row: &mut Row, noted: &mut Option<RunFault>, ticket: u64, fault: RunFault)
     requires runs { Contains (tickets_of row.old) ticket }
     ensures noted { noted.new ≡ Some (noted_with noted.old fault) }
     ensures runs { run_count row.new ≡ run_count row.old }
@@ -83,7 +82,7 @@ fn lose(row: &mut Row, noted: &mut Option<TestRunFault>, ticket: u64, fault: Tes
 }
 
 /// A wait gave no exit: its child is lost.
-fn lose_by(row: &mut Row, noted: &mut Option<TestRunFault>, fault: WaitFault)
+fn lose_by(row: &mut Row, noted: &mut Option<RunFault>, fault: WaitFault)
     requires { Contains (tickets_of row.old) (ended_ticket (Err fault)) }
     ensures runs { run_count row.new ≡ run_count row.old }
     ensures tickets { tickets_of row.new ≡ without (ended_ticket (Err fault))
@@ -93,14 +92,15 @@ fn lose_by(row: &mut Row, noted: &mut Option<TestRunFault>, fault: WaitFault)
         AreUnderWay setting events row.old found (is_some noted.old) →
         AreUnderWay setting (events ++ end_event (Err fault) ∷ []) row.new found
         (is_some noted.new) }
-    ensures counts { (first now : ChildFaultCounts) (losses : ℕ) →
-        ChildCounts {T = Ended} (Err fault) now.losses losses →
-        TestsCountBy noted.old first now →
-        TestsCountBy noted.new first (record now { losses = losses }) }
+    ensures counts { (first now : BuildFaultCounts) (losses : ℕ) →
+        ChildCounts {T = Ended} (Err fault) now.children.losses losses →
+        CountsBy noted.old false first now →
+        CountsBy noted.new false first
+        (record now { children = record now.children { losses = losses } }) }
 {
     match fault {
-        WaitFault::NoMemory { ticket } => lose(row, noted, ticket, TestRunFault::NoMemory),
-        WaitFault::Lost { ticket } => lose(row, noted, ticket, TestRunFault::ChildLost),
+        WaitFault::NoMemory { ticket } => lose(row, noted, ticket, RunFault::NoMemory),
+        WaitFault::Lost { ticket } => lose(row, noted, ticket, RunFault::ChildLost),
     }
 }
 
@@ -110,7 +110,7 @@ pub(crate) fn end_one<P: Procs>(
     runs: &TestRunList,
     row: &mut Row,
     found: &mut Vec<RunEnd>,
-    noted: &mut Option<TestRunFault>,
+    noted: &mut Option<RunFault>,
     procs: &mut P,
 )
     requires running { P.running procs.old ≡ tickets_of row.old }
@@ -131,9 +131,11 @@ pub(crate) fn end_one<P: Procs>(
         (P.journal procs.old) →
         Goes P.tells answer setting old row.new found.new.items (is_some noted.new)
         (P.journal procs.new) }
-    ensures counts { (first : ChildFaultCounts) →
-        TestsCountBy noted.old first (child_counts P.Procs procs.old) →
-        TestsCountBy noted.new first (child_counts P.Procs procs.new) }
+    ensures counts { (first : BuildFaultCounts) (disks : ℕ) →
+        CountsBy noted.old false first
+        (record { children = child_counts P.Procs procs.old; disks = disks }) →
+        CountsBy noted.new false first
+        (record { children = child_counts P.Procs procs.new; disks = disks }) }
 {
     match procs.wait_any(alloc) {
         Ok(Ended { ticket, exit }) => take_exit(alloc, runs, ticket, &exit, row, found, noted),

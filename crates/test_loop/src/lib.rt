@@ -3,14 +3,11 @@
 
 mod announcing;
 mod ends;
-mod faults;
 mod names;
-mod notes;
 mod requests;
 mod results;
 mod runs;
 mod starts;
 
 pub use announcing::announce_long_runs;
-pub use faults::TestRunFault;
 pub use runs::run_tests;

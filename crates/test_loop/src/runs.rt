@@ -1,6 +1,6 @@
 //! Runs of tests: one event a turn, until nothing is left to do and no child runs.
 
-ghost use Rattle.std.specs.Prelude.{◌≡◌, ◌<◌, ◌≤◌, [], ℕ, All, length, map, IfOk};
+ghost use Rattle.std.specs.Prelude.{◌≡◌, ◌<◌, ◌≤◌, [], ℕ, All, length, map, IfOk, false};
 ghost use Rattle.std.specs.Result.{is_ok};
 ghost use Rattle.outside.specs.Records.{IsRecorded};
 ghost use Rattle.outside.specs.FaultCounts.{child_counts};
@@ -10,18 +10,17 @@ ghost use Rattle.test_spec.specs.Verdicts.{unstarted_run};
 ghost use Rattle.test_row.specs.Rows.{IsRowJob, IsRowOf, tickets_of, run_count};
 ghost use Rattle.test_loop.specs.Requests.{AreBuilt, lent_files};
 ghost use Rattle.test_loop.specs.Results.{test_ends};
-ghost use Rattle.test_loop.specs.Faults.{TestsCountBy, test_fault_of};
+ghost use Rattle.run_steps.specs.Faults.{CountsBy, fault_of};
 ghost use Rattle.test_loop.specs.UnderWay.{tests_with};
 ghost use Rattle.test_loop.specs.Ran.{TestsRan};
 
 use crate::ends::end_one;
-use crate::faults::TestRunFault;
 use crate::requests::built_of;
 use crate::results::unstarted_runs;
 use crate::starts::start_one;
 use base::{CASE_LIMIT, Graph, Items, NoMemory, SLOT_LIMIT, Text, TextList};
 use outside::{Procs, Records};
-use run_steps::Step;
+use run_steps::{RunFault, Step};
 use std::alloc::Global;
 use test_row::Row;
 use test_spec::{RunEnd, TestEnd, TestRunList};
@@ -76,7 +75,7 @@ pub fn run_tests<K: Records, P: Procs>(
     procs: &mut P,
     limit: u32,
     fail_fast: bool,
-) -> Result<TestEnd, TestRunFault>
+) -> Result<TestEnd, RunFault>
     requires limit { (1 ≤ limit) × (limit ≤ SLOT_LIMIT) }
     requires idle { P.running procs.old ≡ [] }
     requires few { length runs.now ≤ CASE_LIMIT }
@@ -89,9 +88,9 @@ pub fn run_tests<K: Records, P: Procs>(
         (lent_files (K.latest_of store.now) graph.now) limit fail_fast in
         TestsRan P.tells (P.answer procs.old) setting (P.journal procs.old) (P.journal procs.new) (is_ok result)
         (λ events. IfOk result (λ end. end.runs ≡ test_ends setting events)) }
-    ensures counts { TestsCountBy (test_fault_of result)
-        (child_counts P.Procs procs.old)
-        (child_counts P.Procs procs.new) }
+    ensures counts { (disks : ℕ) → CountsBy (fault_of result) false
+        (record { children = child_counts P.Procs procs.old; disks = disks })
+        (record { children = child_counts P.Procs procs.new; disks = disks }) }
 {
     let Ok(
         Begun {
@@ -101,7 +100,7 @@ pub fn run_tests<K: Records, P: Procs>(
         },
     ) = begin(alloc, graph, store, runs, limit, fail_fast)
     else {
-        return Err(TestRunFault::NoMemory);
+        return Err(RunFault::NoMemory);
     };
     procs.expects(runs.len() as u64);
     let mut noted = None;

@@ -1,12 +1,12 @@
 //! The start of one run, and runs that are halted by a fault.
 
-ghost use Rattle.std.specs.Prelude.{◌≡◌, ◌<◌, ◌≤◌, ◌++◌, ◌∷◌, [], ℕ, Bool, List, Some, None, All, length, IfOk, OnErr, is_some};
+ghost use Rattle.std.specs.Prelude.{◌≡◌, ◌<◌, ◌≤◌, ◌++◌, ◌∷◌, [], ℕ, Bool, List, Some, None, All, length, IfOk, OnErr, is_some, false};
 ghost use Rattle.base.specs.declared.child.Request.{Request};
 ghost use Rattle.base.specs.declared.child.Exit.{Exit};
 ghost use Rattle.base.specs.declared.child.Event.{Event};
 ghost use Rattle.base.specs.declared.child.Event.TheVariants.{Started};
 ghost use Rattle.outside.specs.Children.{IsFresh};
-ghost use Rattle.outside.specs.FaultCounts.{ChildFaultCounts, child_counts};
+ghost use Rattle.outside.specs.FaultCounts.{BuildFaultCounts, child_counts};
 ghost use Rattle.run_spec.specs.Moves.{Job, Core};
 ghost use Rattle.run_steps.specs.declared.step.Step.TheVariants.{Start};
 ghost use Rattle.run_steps.specs.Steps.{halted_if};
@@ -15,20 +15,19 @@ ghost use Rattle.test_spec.specs.Runs.{FitsRun};
 ghost use Rattle.test_spec.specs.BenchJobs.{bench_request};
 ghost use Rattle.test_row.specs.Rows.{IsRowOf, next_of, tickets_of, run_count, to_come};
 ghost use Rattle.test_loop.specs.Requests.{AreBuilt, lent_files};
-ghost use Rattle.test_loop.specs.Faults.{CountsStart, TestsCountBy, noted_with};
+ghost use Rattle.run_steps.specs.Faults.{CountsBy, CountsStart, noted_with};
 ghost use Rattle.test_loop.specs.UnderWay.{Goes, tests_with};
 
-use crate::faults::TestRunFault;
-use crate::notes::note;
 use crate::requests::request_of;
 use base::{Graph, Text, TextList};
 use outside::{Procs, Records, StartFault};
+use run_steps::{RunFault, note};
 use std::alloc::Global;
 use test_row::Row;
 use test_spec::{TestRun, TestRunList};
 
 /// Notes a fault, and nothing more is started.
-fn halt(row: &mut Row, noted: &mut Option<TestRunFault>, fault: TestRunFault)
+fn halt(row: &mut Row, noted: &mut Option<RunFault>, fault: RunFault)
     ensures noted { noted.new ≡ Some (noted_with noted.old fault) }
     ensures in_step { (job : Job) (core : Core) (halts : Bool) →
         IsRowOf row.old job (halted_if halts core) →
@@ -50,7 +49,7 @@ fn try_start<K: Records, P: Procs>(
     run: &TestRun,
     simulator: &TextList,
     procs: &mut P,
-) -> Result<u64, TestRunFault>
+) -> Result<u64, RunFault>
     requires fits { FitsRun run.now }
     requires built { AreBuilt (K.latest_of store.now) graph.now built.now }
     ensures running { IfOk result (λ ticket.
@@ -68,8 +67,8 @@ fn try_start<K: Records, P: Procs>(
     let request = request_of(alloc, graph, store, built, run, simulator)?;
     match procs.start(alloc, &request) {
         Ok(ticket) => Ok(ticket),
-        Err(StartFault::NoMemory) => Err(TestRunFault::NoMemory),
-        Err(StartFault::Failed) => Err(TestRunFault::StartFailed),
+        Err(StartFault::NoMemory) => Err(RunFault::NoMemory),
+        Err(StartFault::Failed) => Err(RunFault::StartFailed),
     }
 }
 
@@ -83,7 +82,7 @@ pub(crate) fn start_one<K: Records, P: Procs>(
     simulator: &TextList,
     at: u32,
     row: &mut Row,
-    noted: &mut Option<TestRunFault>,
+    noted: &mut Option<RunFault>,
     procs: &mut P,
 )
     requires position { at < length runs.now }
@@ -102,9 +101,11 @@ pub(crate) fn start_one<K: Records, P: Procs>(
         (lent_files (K.latest_of store.now) graph.now) slots fail_fast in
         Goes P.tells answer setting old row.old found (is_some noted.old) (P.journal procs.old) →
         Goes P.tells answer setting old row.new found (is_some noted.new) (P.journal procs.new) }
-    ensures counts { (first : ChildFaultCounts) →
-        TestsCountBy noted.old first (child_counts P.Procs procs.old) →
-        TestsCountBy noted.new first (child_counts P.Procs procs.new) }
+    ensures counts { (first : BuildFaultCounts) (disks : ℕ) →
+        CountsBy noted.old false first
+        (record { children = child_counts P.Procs procs.old; disks = disks }) →
+        CountsBy noted.new false first
+        (record { children = child_counts P.Procs procs.new; disks = disks }) }
 {
     let run = runs.get(at as u64);
     match try_start(alloc, graph, store, built, run, simulator, procs) {

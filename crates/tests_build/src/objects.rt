@@ -9,12 +9,13 @@ use crate::shapes::{Project, file_at, file_of, given, graph_of, input_of, letter
 use base::{
     Event, Exit, Graph, Items, MaybeText, NoMemory, Numbers, Positions, Request, Text, TextList,
 };
-use build_loop::{BuildFault, build_marks};
+use build_loop::build_marks;
 use build_slots::{Need, plan};
 use memory_outside::{Answer, AnswerList, MemDisk, ScriptProcs, can_answer};
 use outside::{Disk, Procs, Records, StoreFault};
 use report_run::build_text;
 use run_spec::{Mark, MarkList};
+use run_steps::RunFault;
 use std::alloc::Global;
 use std::process::Abort;
 use std::test::Fail;
@@ -31,7 +32,7 @@ pub(super) struct Told {
     pub whole: Vec<u8>,
     /// What is printed of the build.
     pub text: Vec<u8>,
-    pub fault: Option<BuildFault>,
+    pub fault: Option<RunFault>,
 }
 
 /// A list of the one call that is to fail, or of none.
@@ -156,7 +157,7 @@ fn lent_whole<K: Records>(
     Ok(whole)
 }
 
-/// Builds over a store, by where it has the files.
+/// Builds over a store that was opened over the graph.
 fn build_in<K: Records, D: Disk, P: Procs>(
     alloc: Global,
     graph: &Graph,
@@ -165,21 +166,17 @@ fn build_in<K: Records, D: Disk, P: Procs>(
     procs: &mut P,
     limit: u32,
     keep_going: bool,
-) -> Result<BuildEnd, BuildFault>
+) -> Result<BuildEnd, RunFault>
     requires limit { (1 ≤ limit) × (limit ≤ SLOT_LIMIT) }
     requires idle { P.running procs.old ≡ [] }
+    requires over { K.is_over store.old graph.now }
     requires usable { K.broken store.old ≡ false }
     requires in_step { D.tells → K.in_step store.old (D.moments disk.old).now }
 {
-    let Ok(mut seats) = store.seats(alloc, graph) else {
-        return Err(BuildFault::NoMemory);
-    };
-    let marks = build_marks(
-        alloc, graph, store, disk, procs, &mut seats, limit, keep_going,
-    )?;
+    let marks = build_marks(alloc, graph, store, disk, procs, limit, keep_going)?;
     match lent_whole(alloc, graph, store, &marks) {
         Ok(whole) => Ok(BuildEnd { marks, whole }),
-        Err(NoMemory) => Err(BuildFault::NoMemory),
+        Err(NoMemory) => Err(RunFault::NoMemory),
     }
 }
 
@@ -192,11 +189,11 @@ fn build_over(
     procs: &mut ScriptProcs,
     limit: u32,
     keep_going: bool,
-) -> Result<BuildEnd, BuildFault> {
-    let mut store = match RequestStore::from_disk(alloc, disk) {
+) -> Result<BuildEnd, RunFault> {
+    let mut store = match RequestStore::open(alloc, disk, graph) {
         Ok(store) => store,
-        Err(StoreFault::NoMemory) => return Err(BuildFault::NoMemory),
-        Err(StoreFault::DiskFailed) => return Err(BuildFault::DiskFailed),
+        Err(StoreFault::NoMemory) => return Err(RunFault::NoMemory),
+        Err(StoreFault::DiskFailed) => return Err(RunFault::DiskFailed),
     };
     assert!(rt; is_idle(procs));
     assert!(rt; limit >= 1);
@@ -275,7 +272,7 @@ fn tell(
     alloc: Global,
     graph: &Graph,
     events: &[Event],
-    end: &Result<BuildEnd, BuildFault>,
+    end: &Result<BuildEnd, RunFault>,
 ) -> Result<Told, NoMemory> {
     let events = tell_events(alloc, events)?;
     match end {
@@ -324,13 +321,10 @@ pub(super) fn told_build(
 }
 
 /// The plan over a store as letters: fresh, stale, or to be checked later.
-fn plan_letters<K: Records>(
-    alloc: Global,
-    graph: &Graph,
-    store: &mut K,
-) -> Result<Vec<u8>, NoMemory> {
-    let seats = store.seats(alloc, graph)?;
-    let needs = plan(alloc, graph, store, &seats)?;
+fn plan_letters<K: Records>(alloc: Global, graph: &Graph, store: &K) -> Result<Vec<u8>, NoMemory>
+    requires { K.is_over store.now graph.now }
+{
+    let needs = plan(alloc, graph, store)?;
     let mut letters = Vec::new(alloc);
     for need in needs.as_slice() {
         letters.push(match need {
@@ -349,6 +343,6 @@ pub(super) fn told_plan(
     disk: &mut MemDisk,
 ) -> Result<Vec<u8>, Fail> {
     let graph = graph_of(alloc, project)?;
-    let mut store = RequestStore::from_disk(alloc, disk)?;
-    Ok(plan_letters(alloc, &graph, &mut store)?)
+    let store = RequestStore::open(alloc, disk, &graph)?;
+    Ok(plan_letters(alloc, &graph, &store)?)
 }

@@ -5,7 +5,7 @@ use crate::kept::{AllKept, current, keep};
 use crate::sets::{has, with};
 use crate::shapes::{Project, deps_of, file_at, given};
 use base::NoMemory;
-use build_loop::BuildFault;
+use run_steps::RunFault;
 use std::alloc::Global;
 
 /// Past all calls.
@@ -63,7 +63,7 @@ pub(super) struct Plain {
     /// The file whose commit failed; 8 where none did.
     pub torn: u8,
     pub halted: bool,
-    pub fault: Option<BuildFault>,
+    pub fault: Option<RunFault>,
     pub calls: u32,
     pub waits: u32,
     pub commits: u32,
@@ -94,7 +94,7 @@ fn note(plain: &mut Plain, kind: u8, at: u8) -> Result<(), NoMemory> {
     Ok(())
 }
 
-fn fail(plain: &mut Plain, fault: BuildFault) {
+fn fail(plain: &mut Plain, fault: RunFault) {
     plain.halted = true;
     if plain.fault.is_none() {
         plain.fault = Some(fault);
@@ -145,7 +145,7 @@ fn next(plain: &Plain, project: &Project, limit: u32) -> Option<u8> {
 fn start(plain: &mut Plain, way: &Way, at: u8) -> Result<(), NoMemory> {
     if plain.calls == way.failing {
         plain.calls = plain.calls.wrapping_add(1);
-        fail(plain, BuildFault::StartFailed);
+        fail(plain, RunFault::StartFailed);
         return Ok(());
     }
     plain.started = with(plain.started, at);
@@ -159,7 +159,7 @@ fn commit(plain: &mut Plain, project: &Project, way: &Way, at: u8) {
     }
     if plain.commits == way.failing_commit {
         plain.torn = at;
-        fail(plain, BuildFault::DiskFailed);
+        fail(plain, RunFault::DiskFailed);
         return;
     }
     plain.commits = plain.commits.wrapping_add(1);
@@ -168,7 +168,7 @@ fn commit(plain: &mut Plain, project: &Project, way: &Way, at: u8) {
 
 fn end(plain: &mut Plain, project: &Project, way: &Way, at: u8) -> Result<(), NoMemory> {
     if plain.calls == way.failing {
-        fail(plain, BuildFault::ChildLost);
+        fail(plain, RunFault::ChildLost);
         return note(plain, b'?', at);
     }
     if has(way.refused, at) {

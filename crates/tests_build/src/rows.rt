@@ -7,8 +7,8 @@ use crate::parts::shape_of;
 use crate::plain::{NEVER, Plain, Way, plain_build, steady_way};
 use crate::sets::with;
 use crate::shapes::{Project, first};
-use build_loop::BuildFault;
 use memory_outside::MemDisk;
+use run_steps::RunFault;
 use std::alloc::Global;
 use std::process::Abort;
 use std::test::Fail;
@@ -141,12 +141,12 @@ fn way_in(words: &str) -> Way {
 }
 
 /// The word of a fault.
-fn fault_word(fault: &BuildFault) -> &'static [u8] {
+fn fault_word(fault: &RunFault) -> &'static [u8] {
     match fault {
-        BuildFault::NoMemory => b"memory",
-        BuildFault::StartFailed => b"start",
-        BuildFault::ChildLost => b"lost",
-        BuildFault::DiskFailed => b"disk",
+        RunFault::NoMemory => b"memory",
+        RunFault::StartFailed => b"start",
+        RunFault::ChildLost => b"lost",
+        RunFault::DiskFailed => b"disk",
     }
 }
 

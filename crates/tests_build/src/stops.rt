@@ -6,9 +6,9 @@ use crate::objects::{Told, empty_disk, told_build};
 use crate::parts::USERS;
 use crate::plain::{NEVER, Plain, Way, plain_build, steady_way};
 use crate::shapes::{Project, changed, first, given};
-use build_loop::BuildFault;
 use memory_outside::MemDisk;
 use outside::{Side, write_durably};
+use run_steps::RunFault;
 use std::alloc::Global;
 use std::process::Abort;
 use std::test::Fail;
@@ -51,7 +51,7 @@ fn build_fault(
     project: &Project,
     limit: u32,
     disk: &mut MemDisk,
-) -> Result<Option<BuildFault>, Fail> {
+) -> Result<Option<RunFault>, Fail> {
     let way = steady_way(limit, false, 0, 0);
     let told = told_build(rt, alloc, project, &all_made(project), &way, disk)?;
     Ok(told.fault)
@@ -294,7 +294,7 @@ fn the_first_of_two_faults_is_answered(rt: HostRuntime) -> Result<(), Fail> {
 fn refuses(rt: &impl Abort, alloc: Global, disk: &mut MemDisk) -> Result<(), Fail> {
     let way = steady_way(3, false, 0, 0);
     let told = told_build(rt, alloc, &after(), &all_made(&after()), &way, disk)?;
-    assert!(rt; told.events.is_empty() && told.fault == Some(BuildFault::DiskFailed));
+    assert!(rt; told.events.is_empty() && told.fault == Some(RunFault::DiskFailed));
     Ok(())
 }
 

@@ -3,8 +3,8 @@
 use crate::coded::CodedProcs;
 use base::{NoMemory, Numbers};
 use base_outcomes::Outcome;
-use build_loop::BuildFault;
 use generated_runs::{GenerateOptions, GeneratedSaid, run_generated};
+use run_steps::RunFault;
 use std::alloc::Global;
 use std::process::Abort;
 use std::test::Fail;
@@ -76,16 +76,16 @@ fn letter(outcome: &Outcome) -> &'static str {
 }
 
 /// The letter of a fault.
-fn fault_letter(fault: &BuildFault) -> &'static str {
+fn fault_letter(fault: &RunFault) -> &'static str {
     match fault {
-        BuildFault::StartFailed => "s",
-        BuildFault::ChildLost => "c",
+        RunFault::StartFailed => "s",
+        RunFault::ChildLost => "c",
         _ => "?",
     }
 }
 
 /// Whether a row has this answer and this text.
-fn is_said(said: &Result<GeneratedSaid, BuildFault>, row: &str) -> bool {
+fn is_said(said: &Result<GeneratedSaid, RunFault>, row: &str) -> bool {
     match said {
         Ok(said) => {
             letter(&said.outcome) == part(row, 5) && are_lines(said.text.bytes(), part(row, 7))
@@ -100,7 +100,7 @@ fn said_over(
     alloc: Global,
     row: &str,
     procs: &mut CodedProcs,
-) -> Result<GeneratedSaid, BuildFault> {
+) -> Result<GeneratedSaid, RunFault> {
     let slots = number(part(row, 1));
     let packages = number(part(row, 0));
     assert!(rt; slots >= 1);

@@ -3,17 +3,14 @@
 ghost use Rattle.std.specs.Prelude.{◌≡◌, ◌<◌, ◌≤◌, [], ◌∷◌, false, length, All, IfOk, IsTrue, OnOk};
 ghost use Rattle.base.specs.declared.limits.TheConstants.{ARTEFACT_LIMIT};
 ghost use Rattle.outside.specs.Records.{deps_at};
-ghost use Rattle.store_codec.specs.Shelves.{request_shelf_of};
-ghost use Rattle.store_holdings.specs.Held.{AreLentBy, latest_held};
+ghost use Rattle.store_holdings.specs.Held.{latest_held};
 ghost use Rattle.outside.specs.Records.{HasLatest};
-ghost use Rattle.store_holdings.specs.Seated.{AreSeats};
-ghost use Rattle.store_requests.specs.Stored.{IsRequestStoreInStep};
+ghost use Rattle.store_requests.specs.Stored.{IsOver, IsRequestStoreInStep};
 
 use base::{ARTEFACT_LIMIT, FileName, Graph, Items, NoMemory, Numbers, Text};
 use memory_outside::MemDisk;
 use outside::{Disk, Side, StoreFault, write_durably};
 use std::alloc::Global;
-use store_holdings::Seats;
 use store_requests::RequestStore;
 use tests_graphs::{Record, read_record};
 
@@ -55,32 +52,30 @@ pub(super) fn full_disk(
     disk_of(alloc, failing, &bytes)
 }
 
-/// Adds a record of a file, over seats that are of the records with it afterwards.
+/// Adds a record of a file of the graph that the store was opened over.
 fn keep<D: Disk>(
     alloc: Global,
     store: &mut RequestStore<'_>,
     disk: &mut D,
-    seats: &mut Seats,
     graph: &Graph,
     at: u32,
     artefact: &Text,
 ) -> Result<(), StoreFault>
     requires place { at < length graph.now }
     requires artefact { length artefact.now ≤ ARTEFACT_LIMIT }
-    requires seats { AreSeats (request_shelf_of store.old.held.payloads) graph.now seats.old }
+    requires over { IsOver store.old graph.now }
     requires built { All (HasLatest (latest_held store.old.held.payloads) graph.now)
         (deps_at graph.now at) }
     requires usable { store.old.journal.broken ≡ false }
     requires in_step { D.tells → IsRequestStoreInStep store.old (D.moments disk.old).now }
-    ensures seats { OnOk result
-        (AreSeats (request_shelf_of store.new.held.payloads) graph.now seats.new) }
+    ensures over { OnOk result (IsOver store.new graph.now) }
     ensures usable { OnOk result (store.new.journal.broken ≡ false) }
     ensures in_step { D.tells →
         OnOk result (IsRequestStoreInStep store.new (D.moments disk.new).now) }
 {
     let _files = graph.len();
-    let prepared = store.prepare(alloc, seats, graph, at, artefact)?;
-    store.commit(disk, prepared, seats)?;
+    let prepared = store.prepare(alloc, graph, at, artefact)?;
+    store.commit(disk, prepared)?;
     Ok(())
 }
 
@@ -89,15 +84,13 @@ fn keep_first<D: Disk>(
     alloc: Global,
     store: &mut RequestStore<'_>,
     disk: &mut D,
-    seats: &mut Seats,
     graph: &Graph,
 ) -> Result<(), StoreFault>
     requires some { 0 < length graph.now }
-    requires seats { AreSeats (request_shelf_of store.old.held.payloads) graph.now seats.old }
+    requires over { IsOver store.old graph.now }
     requires usable { store.old.journal.broken ≡ false }
     requires in_step { D.tells → IsRequestStoreInStep store.old (D.moments disk.old).now }
-    ensures seats { OnOk result
-        (AreSeats (request_shelf_of store.new.held.payloads) graph.now seats.new) }
+    ensures over { OnOk result (IsOver store.new graph.now) }
     ensures usable { OnOk result (store.new.journal.broken ≡ false) }
     ensures in_step { D.tells →
         OnOk result (IsRequestStoreInStep store.new (D.moments disk.new).now) }
@@ -106,7 +99,7 @@ fn keep_first<D: Disk>(
         return Err(StoreFault::NoMemory);
     }
     let artefact = Text::from_slice(alloc, b"y")?;
-    keep(alloc, store, disk, seats, graph, 0, &artefact)
+    keep(alloc, store, disk, graph, 0, &artefact)
 }
 
 /// The one byte of a text, or a dot where it has none.
@@ -162,13 +155,13 @@ fn is_first(deps: &[u32]) -> bool
 }
 
 /// Whether the second file of a graph depends on the first alone, which has a record of what would be asked now.
-fn may_follow(store: &RequestStore<'_>, seats: &Seats, graph: &Graph) -> bool
+fn may_follow(store: &RequestStore<'_>, graph: &Graph) -> bool
     requires both { 1 < length graph.now }
-    requires seats { AreSeats (request_shelf_of store.now.held.payloads) graph.now seats.now }
+    requires over { IsOver store.now graph.now }
     ensures { IsTrue result →
         All (HasLatest (latest_held store.now.held.payloads) graph.now) (deps_at graph.now 1) }
 {
-    if !store.fits(seats, graph, 0) {
+    if !store.fits(graph, 0) {
         return false;
     }
     let second = graph.get(1);
@@ -180,22 +173,22 @@ fn keep_second<D: Disk>(
     alloc: Global,
     store: &mut RequestStore<'_>,
     disk: &mut D,
-    seats: &mut Seats,
     graph: &Graph,
 ) -> Result<(), StoreFault>
     requires both { 1 < length graph.now }
-    requires seats { AreSeats (request_shelf_of store.old.held.payloads) graph.now seats.old }
+    requires over { IsOver store.old graph.now }
     requires usable { store.old.journal.broken ≡ false }
     requires in_step { D.tells → IsRequestStoreInStep store.old (D.moments disk.old).now }
+    ensures over { OnOk result (IsOver store.new graph.now) }
 {
-    if !may_follow(store, seats, graph) {
+    if !may_follow(store, graph) {
         return Err(StoreFault::NoMemory);
     }
     let artefact = Text::from_slice(alloc, b"z")?;
-    keep(alloc, store, disk, seats, graph, 1, &artefact)
+    keep(alloc, store, disk, graph, 1, &artefact)
 }
 
-/// Adds a record of the first file, and then of both where that is asked for, over the same seats.
+/// Adds a record of the first file, and then of both where that is asked for.
 fn keep_some<D: Disk>(
     alloc: Global,
     store: &mut RequestStore<'_>,
@@ -204,15 +197,16 @@ fn keep_some<D: Disk>(
     both: bool,
 ) -> Result<(), StoreFault>
     requires both { 1 < length graph.now }
+    requires over { IsOver store.old graph.now }
     requires usable { store.old.journal.broken ≡ false }
     requires in_step { D.tells → IsRequestStoreInStep store.old (D.moments disk.old).now }
+    ensures over { OnOk result (IsOver store.new graph.now) }
 {
-    let mut seats = store.seats(alloc, graph)?;
-    keep_first(alloc, store, disk, &mut seats, graph)?;
+    keep_first(alloc, store, disk, graph)?;
     if !both {
         return Ok(());
     }
-    keep_second(alloc, store, disk, &mut seats, graph)
+    keep_second(alloc, store, disk, graph)
 }
 
 /// What is done to the store of a disk, once it is opened. A disk that is full of dead bytes is compacted as it is opened.
@@ -233,8 +227,10 @@ fn make_change<D: Disk>(
     graph: &Graph,
 ) -> Result<(), StoreFault>
     requires both { 1 < length graph.now }
+    requires over { IsOver store.old graph.now }
     requires usable { store.old.journal.broken ≡ false }
     requires in_step { D.tells → IsRequestStoreInStep store.old (D.moments disk.old).now }
+    ensures over { OnOk result (IsOver store.new graph.now) }
 {
     match change {
         Change::Opens => Ok(()),
@@ -245,33 +241,33 @@ fn make_change<D: Disk>(
     }
 }
 
-/// Of both files `f` where by these seats the latest record has what would be asked now, and else `s`.
-fn fitting(store: &RequestStore<'_>, seats: &Seats, graph: &Graph) -> [u8; 2]
+/// Of both files `f` where the latest record has what would be asked now, and else `s`.
+fn fitting(store: &RequestStore<'_>, graph: &Graph) -> [u8; 2]
     requires both { 1 < length graph.now }
-    requires seats { AreSeats (request_shelf_of store.now.held.payloads) graph.now seats.now }
+    requires over { IsOver store.now graph.now }
 {
     let mut letters = [b's'; 2];
-    if store.fits(seats, graph, 0) {
+    if store.fits(graph, 0) {
         letters[0] = b'f';
     }
-    if store.fits(seats, graph, 1) {
+    if store.fits(graph, 1) {
         letters[1] = b'f';
     }
     letters
 }
 
-/// The same by the seats of any files, and then the artefacts that are lent.
-fn seen(alloc: Global, store: &RequestStore<'_>, graph: &Graph) -> Result<[u8; 4], NoMemory>
-    requires { 1 < length graph.now }
+/// The same, and then the artefacts that are lent.
+fn seen(store: &RequestStore<'_>, graph: &Graph) -> [u8; 4]
+    requires both { 1 < length graph.now }
+    requires over { IsOver store.now graph.now }
 {
-    let seats = store.seats(alloc, graph)?;
-    let [first, second] = fitting(store, &seats, graph);
-    Ok([
+    let [first, second] = fitting(store, graph);
+    [
         first,
         second,
         letter(store, &graph.get(0).name),
         letter(store, &graph.get(1).name),
-    ])
+    ]
 }
 
 /// The same after a change.
@@ -283,11 +279,12 @@ fn seen_after<D: Disk>(
     graph: &Graph,
 ) -> Result<[u8; 4], StoreFault>
     requires both { 1 < length graph.now }
+    requires over { IsOver store.old graph.now }
     requires usable { store.old.journal.broken ≡ false }
     requires in_step { D.tells → IsRequestStoreInStep store.old (D.moments disk.old).now }
 {
     make_change(alloc, store, disk, by, graph)?;
-    Ok(seen(alloc, store, graph)?)
+    Ok(seen(store, graph))
 }
 
 /// Opens the store of a disk, which lends from the files the texts that these have, and gives what is seen after a change. It
@@ -300,20 +297,11 @@ pub(super) fn seen_on<D: Disk>(
 ) -> Result<[u8; 4], StoreFault>
     requires { 1 < length graph.now }
 {
-    let mut store = RequestStore::open(alloc, disk, graph.as_slice())?;
+    let mut store = RequestStore::open(alloc, disk, graph)?;
     seen_after(alloc, &mut store, disk, by, graph)
 }
 
-/// The same by the seats of files whose texts are lent, without artefacts.
-fn fitting_in(alloc: Global, store: &RequestStore<'_>, graph: &Graph) -> Result<[u8; 2], StoreFault>
-    requires both { 1 < length graph.now }
-    requires lent { AreLentBy graph.now store.now.held.lent }
-{
-    let seats = store.lent_seats(alloc, graph)?;
-    Ok(fitting(store, &seats, graph))
-}
-
-/// The same of the store of a disk, which lends from the files the texts that these have.
+/// Of both files in the store of a disk, which lends from them the texts that they have, whether the latest record fits.
 pub(super) fn fitting_on<D: Disk>(
     alloc: Global,
     disk: &mut D,
@@ -321,23 +309,16 @@ pub(super) fn fitting_on<D: Disk>(
 ) -> Result<[u8; 2], StoreFault>
     requires { 1 < length graph.now }
 {
-    let store = RequestStore::open(alloc, disk, graph.as_slice())?;
-    fitting_in(alloc, &store, graph)
-}
-
-/// What is seen in a store.
-fn seen_in(alloc: Global, store: &RequestStore<'_>, graph: &Graph) -> Result<[u8; 4], StoreFault>
-    requires { 1 < length graph.now }
-{
-    Ok(seen(alloc, store, graph)?)
+    let store = RequestStore::open(alloc, disk, graph)?;
+    Ok(fitting(&store, graph))
 }
 
 /// Opens the store of a disk empty, and gives what is seen.
 fn seen_empty<D: Disk>(alloc: Global, disk: &mut D, graph: &Graph) -> Result<[u8; 4], StoreFault>
     requires { 1 < length graph.now }
 {
-    let store = RequestStore::emptied(alloc, disk)?;
-    seen_in(alloc, &store, graph)
+    let store = RequestStore::emptied(alloc, disk, graph)?;
+    Ok(seen(&store, graph))
 }
 
 /// Adds a record of the first file, and empties the disk.

@@ -102,12 +102,11 @@ pub(super) fn are_recorded<K: Records>(
     alloc: Global,
     graph: &Graph,
     store: &K,
-    seats: &K::Seats,
 ) -> Result<bool, NoMemory>
-    requires { K.is_seated store.now graph.now seats.now }
+    requires { K.is_over store.now graph.now }
     ensures { IfOk result (λ are. IsTrue are → (position : ℕ) → position < length graph.now →
         IsRecorded (K.latest_of store.now) graph.now position) }
 {
-    let needs = plan(alloc, graph, store, seats)?;
+    let needs = plan(alloc, graph, store)?;
     Ok(all_fresh(needs.as_slice()))
 }

@@ -1,7 +1,7 @@
 //! Runs over a store and children in memory, and what they tell.
 
-ghost use Rattle.store_codec.specs.Shelves.{request_shelf_of};
-ghost use Rattle.store_holdings.specs.Seated.{AreSeats};
+ghost use Rattle.std.specs.Prelude.{IfOk};
+ghost use Rattle.store_requests.specs.Stored.{IsOver};
 
 use crate::asked::{all_fit, are_recorded};
 use crate::lines::{answers_of, inputs_of, runs_of, simulator};
@@ -9,12 +9,12 @@ use crate::way::{NEVER, Way, pick_of};
 use base::{Event, Graph, NoMemory, Numbers, Positions, Text, TextList};
 use memory_outside::{MemDisk, ScriptProcs, can_answer};
 use outside::{Records, Side, StoreFault, write_durably};
+use run_steps::RunFault;
 use std::alloc::Global;
 use std::process::Abort;
 use std::test::Fail;
-use store_holdings::Seats;
 use store_requests::RequestStore;
-use test_loop::{TestRunFault, run_tests};
+use test_loop::run_tests;
 use test_spec::{RunEnd, TestEnd, TestRunList, Verdict};
 use tests_graphs::{Record, read_record};
 
@@ -25,7 +25,7 @@ pub(super) struct Told {
     pub events: Vec<u8>,
     /// Of each run the output that is shown, and a line for each case.
     pub text: Vec<u8>,
-    pub fault: Option<TestRunFault>,
+    pub fault: Option<RunFault>,
     /// Whether no child runs in the end.
     pub idle: bool,
 }
@@ -104,26 +104,22 @@ pub(super) fn disk_of(alloc: Global, stored: Stored) -> Result<MemDisk, StoreFau
     Ok(disk)
 }
 
-/// Such a store.
-fn store_of(alloc: Global, stored: Stored) -> Result<RequestStore<'static>, StoreFault> {
-    let mut disk = disk_of(alloc, stored)?;
-    RequestStore::open(alloc, &mut disk, &[])
-}
-
-/// Whether each file of a graph has a record of what would be asked for it now.
-fn is_recorded_in(
+/// Such a store, opened over a graph.
+fn store_of<'g>(
     alloc: Global,
-    graph: &Graph,
-    store: &RequestStore<'_>,
-) -> Result<bool, NoMemory> {
-    let seats = store.seats(alloc, graph)?;
-    are_recorded(alloc, graph, store, &seats)
+    stored: Stored,
+    graph: &'g Graph,
+) -> Result<RequestStore<'g>, StoreFault>
+    ensures { IfOk result (λ store. IsOver store graph.now) }
+{
+    let mut disk = disk_of(alloc, stored)?;
+    RequestStore::open(alloc, &mut disk, graph)
 }
 
-/// The same of such a store.
+/// Whether each file of a graph has a record in such a store of what would be asked for it now.
 pub(super) fn is_recorded(alloc: Global, graph: &Graph, stored: Stored) -> Result<bool, Fail> {
-    let store = store_of(alloc, stored)?;
-    Ok(is_recorded_in(alloc, graph, &store)?)
+    let store = store_of(alloc, stored, graph)?;
+    Ok(are_recorded(alloc, graph, &store)?)
 }
 
 /// The calls that are to fail.
@@ -164,16 +160,15 @@ fn run_over<K: Records>(
     alloc: Global,
     graph: &Graph,
     store: &K,
-    seats: &K::Seats,
     runs: &TestRunList,
     words: &TextList,
     procs: &mut ScriptProcs,
     way: &Way,
-) -> Result<TestEnd, TestRunFault>
-    requires { K.is_seated store.now graph.now seats.now }
+) -> Result<TestEnd, RunFault>
+    requires { K.is_over store.now graph.now }
 {
     let limit = way.limit;
-    let recorded = are_recorded(alloc, graph, store, seats)?;
+    let recorded = are_recorded(alloc, graph, store)?;
     assert!(rt; recorded);
     assert!(rt; procs.running().is_empty());
     assert!(rt; limit >= 1);
@@ -285,7 +280,7 @@ fn tell(
     alloc: Global,
     procs: &ScriptProcs,
     inputs: &TextList,
-    end: &Result<TestEnd, TestRunFault>,
+    end: &Result<TestEnd, RunFault>,
 ) -> Result<Told, NoMemory> {
     let events = tell_events(alloc, procs.journal().as_slice(), inputs)?;
     let idle = procs.running().is_empty();
@@ -311,16 +306,15 @@ fn told_by(
     alloc: Global,
     graph: &Graph,
     store: &RequestStore<'_>,
-    seats: &Seats,
     lines: &str,
     procs: &mut ScriptProcs,
     way: &Way,
 ) -> Result<Told, NoMemory>
-    requires { AreSeats (request_shelf_of store.now.held.payloads) graph.now seats.now }
+    requires { IsOver store.now graph.now }
 {
     let runs = runs_of(alloc, lines)?;
     let words = simulator(alloc)?;
-    let end = run_over(rt, alloc, graph, store, seats, &runs, &words, procs, way);
+    let end = run_over(rt, alloc, graph, store, &runs, &words, procs, way);
     tell(alloc, procs, &inputs_of(alloc, lines)?, &end)
 }
 
@@ -331,10 +325,11 @@ fn told_over(
     store: &RequestStore<'_>,
     lines: &str,
     way: &Way,
-) -> Result<Told, NoMemory> {
-    let seats = store.seats(alloc, graph)?;
+) -> Result<Told, NoMemory>
+    requires { IsOver store.now graph.now }
+{
     let mut procs = script(rt, alloc, lines, way)?;
-    told_by(rt, alloc, graph, store, &seats, lines, &mut procs, way)
+    told_by(rt, alloc, graph, store, lines, &mut procs, way)
 }
 
 /// Runs the runs of lines over a graph, of whose files the store has the records.
@@ -345,7 +340,7 @@ pub(super) fn told_on(
     lines: &str,
     way: &Way,
 ) -> Result<Told, Fail> {
-    let store = store_of(alloc, Stored::Both)?;
+    let store = store_of(alloc, Stored::Both, graph)?;
     Ok(told_over(rt, alloc, graph, &store, lines, way)?)
 }
 

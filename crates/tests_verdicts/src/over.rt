@@ -5,9 +5,9 @@ use crate::lines::{inputs_of, runs_of, simulator};
 use crate::objects::{Stored, disk_of, graph_of, script, tell_ends, tell_events};
 use crate::way::{Way, way_of};
 use base::{Graph, NoMemory, TextList};
-use build_loop::BuildFault;
 use memory_outside::{MemDisk, ScriptProcs};
-use run_build::{AsStored, BuildOptions};
+use run_build::BuildOptions;
+use run_steps::RunFault;
 use run_tested::{Tested, test_over};
 use std::alloc::Global;
 use std::process::Abort;
@@ -30,7 +30,7 @@ fn test_disk(
     disk: &mut MemDisk,
     procs: &mut ScriptProcs,
     way: &Way,
-) -> Result<Tested, BuildFault> {
+) -> Result<Tested, RunFault> {
     let slots = way.limit;
     assert!(rt; procs.running().is_empty());
     assert!(rt; slots >= 1);
@@ -42,21 +42,20 @@ fn test_disk(
         keep_going: false,
         clean: false,
     };
-    test_over::<RequestStore<'_>, AsStored, MemDisk, ScriptProcs>(
+    test_over::<RequestStore<'_>, MemDisk, ScriptProcs>(
         alloc,
         graph,
         options,
         runs,
         words,
         way.fail_fast,
-        &AsStored,
         disk,
         procs,
     )
 }
 
 /// What became of the runs, and `none` where a file isn't made; `fault` after a fault.
-fn tell_tested(alloc: Global, tested: &Result<Tested, BuildFault>) -> Result<Vec<u8>, NoMemory> {
+fn tell_tested(alloc: Global, tested: &Result<Tested, RunFault>) -> Result<Vec<u8>, NoMemory> {
     match tested {
         Ok(tested) => match &tested.tests {
             Some(end) => tell_ends(alloc, end.runs.as_slice()),

@@ -4,8 +4,8 @@ use crate::lines::{BENCH, CASES, CODE, LIBRARY, MODE, OUTPUT, RESULTS, output_of
 use crate::objects::Told;
 use crate::way::{Way, pick_of};
 use base::NoMemory;
+use run_steps::RunFault;
 use std::alloc::Global;
-use test_loop::TestRunFault;
 
 /// What has happened.
 #[derive(Drop)]
@@ -17,7 +17,7 @@ pub(super) struct Plain {
     pub ended: Vec<u8>,
     pub next: u8,
     pub halted: bool,
-    pub fault: Option<TestRunFault>,
+    pub fault: Option<RunFault>,
     pub calls: u32,
     pub waits: u32,
 }
@@ -118,7 +118,7 @@ fn note(plain: &mut Plain, kind: u8, at: u8) -> Result<(), NoMemory> {
     Ok(())
 }
 
-fn fail(plain: &mut Plain, fault: TestRunFault) {
+fn fail(plain: &mut Plain, fault: RunFault) {
     plain.halted = true;
     if plain.fault.is_none() {
         plain.fault = Some(fault);
@@ -134,7 +134,7 @@ fn call_fails(plain: &mut Plain, way: &Way) -> bool {
 
 fn start(plain: &mut Plain, way: &Way) -> Result<(), NoMemory> {
     if call_fails(plain, way) {
-        fail(plain, TestRunFault::StartFailed);
+        fail(plain, RunFault::StartFailed);
         return Ok(());
     }
     let at = plain.next;
@@ -145,7 +145,7 @@ fn start(plain: &mut Plain, way: &Way) -> Result<(), NoMemory> {
 
 fn end(plain: &mut Plain, lines: &str, way: &Way, at: u8) -> Result<(), NoMemory> {
     if call_fails(plain, way) {
-        fail(plain, TestRunFault::ChildLost);
+        fail(plain, RunFault::ChildLost);
         return note(plain, b'?', at);
     }
     let line = line_at(lines, at);

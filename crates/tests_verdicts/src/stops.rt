@@ -3,10 +3,10 @@
 use crate::objects::told_runs;
 use crate::plain::{agree, plain_runs};
 use crate::way::{NEVER, Way, way_of};
+use run_steps::RunFault;
 use std::alloc::Global;
 use std::process::Abort;
 use std::test::Fail;
-use test_loop::TestRunFault;
 
 /// Four runs, the third of which fails.
 static FOUR: &str = "\
@@ -28,7 +28,7 @@ fn ends_so(
     alloc: Global,
     way: &Way,
     events: &str,
-    fault: TestRunFault,
+    fault: RunFault,
 ) -> Result<(), Fail> {
     let told = told_runs(rt, alloc, FOUR, way)?;
     assert!(rt; told.idle && told.fault == Some(fault));
@@ -38,7 +38,7 @@ fn ends_so(
 
 #[test]
 fn the_other_child_is_waited_for_after_a_loss(rt: HostRuntime) -> Result<(), Fail> {
-    let lost = TestRunFault::ChildLost;
+    let lost = RunFault::ChildLost;
     ends_so(&rt, rt.alloc(), &failing(2, 2, NEVER), "+0+1?0-1", lost)?;
     ends_so(&rt, rt.alloc(), &failing(2, 4, NEVER), "+0+1-0+2?1!2", lost)?;
     ends_so(&rt, rt.alloc(), &failing(2, 2, 3), "+0+1?0?1", lost)
@@ -46,7 +46,7 @@ fn the_other_child_is_waited_for_after_a_loss(rt: HostRuntime) -> Result<(), Fai
 
 #[test]
 fn the_children_are_waited_for_after_a_failed_start(rt: HostRuntime) -> Result<(), Fail> {
-    let failed = TestRunFault::StartFailed;
+    let failed = RunFault::StartFailed;
     ends_so(&rt, rt.alloc(), &failing(2, 0, NEVER), "", failed)?;
     ends_so(&rt, rt.alloc(), &failing(2, 1, NEVER), "+0-0", failed)?;
     ends_so(&rt, rt.alloc(), &failing(2, 3, NEVER), "+0+1-0-1", failed)?;

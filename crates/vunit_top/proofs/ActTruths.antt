@@ -14,7 +14,7 @@ use Rattle.outside.specs.FaultCounts.{RunFaultCounts}
 use Rattle.run_spec.specs.ChildJournal.{EachAfter, since}
 use Rattle.run_spec.specs.JournalParts.{compile_part, test_part, is_given}
 use Rattle.run_histories.specs.Histories.{Order, work_over}
-use Rattle.build_loop.specs.declared.faults.BuildFault.TheVariants as fault
+use Rattle.run_steps.specs.declared.fault.RunFault.TheVariants as fault
 use Rattle.run_build.proofs.OverStore.{no_test_since, since_itself}
 use Rattle.test_journal.specs.TestJournal.{LawfulTests}
 use Rattle.run_tested.specs.Tested.{setting_after}

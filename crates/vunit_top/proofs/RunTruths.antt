@@ -28,8 +28,8 @@ use Rattle.run_spec.proofs.Parts.{build_parts}
 use Rattle.run_laws.proofs.JournalSettled.{all_started, all_steady, all_files_made}
 use Rattle.run_laws.specs.Rights.{IsRightStep}
 use Rattle.run_laws.proofs.RightRuns.{run_right}
-use Rattle.build_loop.specs.declared.faults.BuildFault.{BuildFault}
-use Rattle.build_loop.specs.declared.faults.BuildFault.TheVariants as fault
+use Rattle.run_steps.specs.declared.fault.RunFault.{RunFault}
+use Rattle.run_steps.specs.declared.fault.RunFault.TheVariants as fault
 use Rattle.report_run.specs.Outcomes.{build_outcome}
 use Rattle.vhdl_spec.specs.Scans.{Finding}
 use Rattle.vunit_top.specs.Store.{IsRestingDisk, records_in_image}
@@ -92,7 +92,7 @@ writes_nothing {T} {F} result old new ended ends rests = record {
   same = λ is. subst (λ (r : Result T F). OnOk r (new.now ≡ settled_disk (reads_of old.now))) (ends is).1 rests.same;
 }
 
-module _ (scan : List ℕ → Finding) (answer : Request → Exit) (order : Order) (warnings : List ℕ) (result : Result (List Mark) BuildFault) (failed : Bool) (old new : Moments) (sound : AreSound old) (events : List Event)
+module _ (scan : List ℕ → Finding) (answer : Request → Exit) (order : Order) (warnings : List ℕ) (result : Result (List Mark) RunFault) (failed : Bool) (old new : Moments) (sound : AreSound old) (events : List Event)
     (over : BuildsOver records_in_image answer order result failed old new events) (words : List (List ℕ)) (said : Outcome) where
   abbrev s : Work
   s = work_over records_in_image order old.now
@@ -123,15 +123,15 @@ module _ (scan : List ℕ → Finding) (answer : Request → Exit) (order : Orde
     pub runs_over : (HasEnded said → (marks : List Mark) × (result ≡ Ok marks)) → (HasBuilt said → list_any is_refused (marks_of s events) ≡ false) →
         (order.clean ≡ false → IsRestingDisk old.now → commits s events ≡ [] → WritesNothing (HasEnded said) old.now (added_since old new) new.now) → RunsAs scan answer (Builds order warnings) run old.now new.now
     runs_over ends done rests =
-        let whole : HasEnded said → IsWhole s events = λ is. subst (λ (r : Result (List Mark) BuildFault). OnOk r (IsWhole s events)) (ends is).1 over.whole in
+        let whole : HasEnded said → IsWhole s events = λ is. subst (λ (r : Result (List Mark) RunFault). OnOk r (IsWhole s events)) (ends is).1 over.whole in
         record {
           step = build_step;
           ends = last_is old new over.follows;
           whole = λ is. moved (λ l. IsWhole s l) (whole is);
           recorded = λ is. moved (λ l. (position : ℕ) → position < length order.graph → is_some (artefact_after s l position) ≡ true → IsDurablyRecorded records_in_image new.now order.graph position)
-              (subst (λ (r : Result (List Mark) BuildFault). OnOk r ((position : ℕ) → position < length order.graph → is_some (artefact_after s events position) ≡ true → IsDurablyRecorded records_in_image new.now order.graph position)) (ends is).1 over.recorded);
+              (subst (λ (r : Result (List Mark) RunFault). OnOk r ((position : ℕ) → position < length order.graph → is_some (artefact_after s events position) ≡ true → IsDurablyRecorded records_in_image new.now order.graph position)) (ends is).1 over.recorded);
           emptied = λ is. moved (λ l. order.clean ≡ true → EachImage (λ image. records_in_image image ≡ commits s l) new.now)
-              (subst (λ (r : Result (List Mark) BuildFault). OnOk r (order.clean ≡ true → EachImage (λ image. records_in_image image ≡ commits s events) new.now)) (ends is).1 over.emptied);
+              (subst (λ (r : Result (List Mark) RunFault). OnOk r (order.clean ≡ true → EachImage (λ image. records_in_image image ≡ commits s events) new.now)) (ends is).1 over.emptied);
           rests = λ clean resting none. rests clean resting (ap (commits s) (sym compiled) ∙ none);
           right = right_step scan answer (Some order) run old.now (readable_now old sound) build_step;
           exact = λ is none. record {
@@ -148,19 +148,19 @@ marked_over answer order marks failed old new events over = over.marks ∙ ap (m
 
 -- a run whose build ended by itself
 pub ended_over : (scan : List ℕ → Finding) (answer : Request → Exit) (order : Order) (warnings : List ℕ) (marks : List Mark) (failed : Bool) (old new : Moments) → AreSound old → (events : List Event) → BuildsOver records_in_image answer order (Ok marks) failed old new events → (words : List (List ℕ)) (said : Outcome)
-    → (IsSaid said → said ≡ build_outcome order.graph marks) → RestsOver {T = List Mark} {E = BuildFault} records_in_image (λ image. IsResting image) order (Ok marks) old new events → RunsAs scan answer (Builds order warnings) (run_of words said failed events (added_since old new)) old.now new.now
+    → (IsSaid said → said ≡ build_outcome order.graph marks) → RestsOver {T = List Mark} {E = RunFault} records_in_image (λ image. IsResting image) order (Ok marks) old new events → RunsAs scan answer (Builds order warnings) (run_of words said failed events (added_since old new)) old.now new.now
 ended_over scan answer order warnings marks failed old new sound events over words said answered rests =
     runs_over scan answer order warnings (Ok marks) failed old new sound events over words said (λ is. let nothing : ⊥ = cc in absurd nothing) (λ is. (marks, refl)) (λ is.
     subst (λ (m : List Mark). list_any is_refused m ≡ false) over.marks (built_refuses_none order.graph marks said is (answered (built_said said is))))
-    (λ clean resting none. writes_nothing {T = List Mark} {F = BuildFault} (Ok marks) old new (HasEnded said) (λ is. (marks, refl)) (rests clean resting none))
+    (λ clean resting none. writes_nothing {T = List Mark} {F = RunFault} (Ok marks) old new (HasEnded said) (λ is. (marks, refl)) (rests clean resting none))
 
 -- a run whose build had a fault
-pub faulted_over : (scan : List ℕ → Finding) (answer : Request → Exit) (order : Order) (warnings : List ℕ) (why : BuildFault) (failed : Bool) (old new : Moments) → AreSound old → (events : List Event) → BuildsOver records_in_image answer order (Err why) failed old new events → (words : List (List ℕ)) (said : Outcome)
+pub faulted_over : (scan : List ℕ → Finding) (answer : Request → Exit) (order : Order) (warnings : List ℕ) (why : RunFault) (failed : Bool) (old new : Moments) → AreSound old → (events : List Event) → BuildsOver records_in_image answer order (Err why) failed old new events → (words : List (List ℕ)) (said : Outcome)
     → (HasEnded said → ⊥) → (why ≡ fault.NoMemory → said ≡ outcome.NoMemory) → RestsOver {T = List Mark} records_in_image (λ image. IsResting image) order (Err why) old new events → RunsAs scan answer (Builds order warnings) (run_of words said failed events (added_since old new)) old.now new.now
 faulted_over scan answer order warnings why failed old new sound events over words said fails memory rests =
     runs_over scan answer order warnings (Err why) failed old new sound events over words said (λ is. memory (same_fault why is)) (λ is. absurd (fails is)) (λ is. absurd (fails (built_ended said is)))
     (λ clean resting none. writes_nothing {T = List Mark} (Err why) old new (HasEnded said) (λ is. absurd (fails is)) (rests clean resting none)) where
-      same_fault : (why : BuildFault) → ◌≡◌ {A = Result (List Mark) BuildFault} (Err why) (Err fault.NoMemory) → why ≡ fault.NoMemory
+      same_fault : (why : RunFault) → ◌≡◌ {A = Result (List Mark) RunFault} (Err why) (Err fault.NoMemory) → why ≡ fault.NoMemory
       same_fault why is = cc
 
 -- a run that did nothing

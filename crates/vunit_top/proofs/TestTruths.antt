@@ -23,10 +23,10 @@ use Rattle.run_spec.proofs.Parts.{build_parts}
 use Rattle.run_histories.specs.Histories.{ProgramRun, work_over}
 use Rattle.outside.specs.Disks.{DiskState}
 use Rattle.outside.specs.FaultCounts.{BuildFaultCounts, NoBuildCountFell, RunFaultCounts}
-use Rattle.build_loop.specs.Faults.{Explains}
+use Rattle.run_steps.specs.Faults.{Explains}
 use Rattle.build_loop.specs.Ran.{is_made}
-use Rattle.build_loop.specs.declared.faults.BuildFault.{BuildFault}
-use Rattle.build_loop.specs.declared.faults.BuildFault.TheVariants as fault
+use Rattle.run_steps.specs.declared.fault.RunFault.{RunFault}
+use Rattle.run_steps.specs.declared.fault.RunFault.TheVariants as fault
 use Rattle.vhdl_spec.specs.Scans.{Finding}
 use Rattle.test_spec.specs.declared.runs.TestRun.{TestRun}
 use Rattle.test_spec.specs.declared.ends.TestEnd.{TestEnd}
@@ -77,28 +77,28 @@ none_refused setting warnings graph marks runs words (Some end) events said says
 
 -- ## After a fault
 
-pub never_ended : (why : BuildFault) → HasEnded (fault_outcome why) → ⊥
+pub never_ended : (why : RunFault) → HasEnded (fault_outcome why) → ⊥
 never_ended fault.NoMemory is = is
 never_ended fault.StartFailed is = is
 never_ended fault.ChildLost is = is
 never_ended fault.DiskFailed is = is
 
-pub never_said : (why : BuildFault) → IsSaid (fault_outcome why) → ⊥
+pub never_said : (why : RunFault) → IsSaid (fault_outcome why) → ⊥
 never_said fault.NoMemory is = is
 never_said fault.StartFailed is = is
 never_said fault.ChildLost is = is
 never_said fault.DiskFailed is = is
 
-never_built : (why : BuildFault) → HasBuilt (fault_outcome why) → ⊥
+never_built : (why : RunFault) → HasBuilt (fault_outcome why) → ⊥
 never_built why is = never_said why (built_said (fault_outcome why) is)
 
-pub nothing_put : (why : BuildFault) (said : Said) (put : List ℕ) → SaysRun (fault_outcome why) said put put
+pub nothing_put : (why : RunFault) (said : Said) (put : List ℕ) → SaysRun (fault_outcome why) said put put
 nothing_put fault.NoMemory said put = refl
 nothing_put fault.StartFailed said put = refl
 nothing_put fault.ChildLost said put = refl
 nothing_put fault.DiskFailed said put = refl
 
-pub nothing_written : (why : BuildFault) (path : MaybeText) (said : Option (List ℕ)) (report : List ℕ → Option (List ℕ)) → WritesReport path said (fault_outcome why) report report
+pub nothing_written : (why : RunFault) (path : MaybeText) (said : Option (List ℕ)) (report : List ℕ → Option (List ℕ)) → WritesReport path said (fault_outcome why) report report
 nothing_written why Nothing said report = refl
 nothing_written why (Given path) None report = refl
 nothing_written fault.NoMemory (Given path) (Some text) report = refl
@@ -107,10 +107,10 @@ nothing_written fault.ChildLost (Given path) (Some text) report = refl
 nothing_written fault.DiskFailed (Given path) (Some text) report = refl
 
 -- the counts of a build and of its tests say why
-pub fault_counted : (why : BuildFault) (first now : BuildFaultCounts) (others : RunFaultCounts) → Explains (Some why) first now → NoBuildCountFell first now →
+pub fault_counted : (why : RunFault) (first now : BuildFaultCounts) (others : RunFaultCounts) → Explains (Some why) first now → NoBuildCountFell first now →
     IsAccounted (fault_outcome why) (record others { build = first }) (record others { build = now })
 fault_counted why first now others explains fell = record { cause = cause why explains; stand = record { tree = omega arith; build = fell; out = omega arith; report = omega arith; input = omega arith } } where
-  cause : (why : BuildFault) → Explains (Some why) first now → Causes (fault_outcome why) (record others { build = first }) (record others { build = now })
+  cause : (why : RunFault) → Explains (Some why) first now → Causes (fault_outcome why) (record others { build = first }) (record others { build = now })
   cause fault.NoMemory is = tt
   cause fault.StartFailed is = is
   cause fault.ChildLost is = is
@@ -142,20 +142,20 @@ as_run scan answer asked run first last did = record {
 marked : (answer : Request → Exit) (asked : Testing) (failed : Bool) (old new : Moments) (events : List Event) (tested : Tested) (over : TestsOver records_in_image answer asked.order asked.plan (Ok tested) failed old new events) →
     tested.marks ≡ marks_of (work_over records_in_image asked.order old.now) over.compiled
 marked answer asked failed old new events tested over =
-    subst (λ (r : Result (List Mark) BuildFault). IfOk r (λ marks. marks ≡ marks_of (work_over records_in_image asked.order old.now) over.compiled)) over.gives.0 over.builds.marks
+    subst (λ (r : Result (List Mark) RunFault). IfOk r (λ marks. marks ≡ marks_of (work_over records_in_image asked.order old.now) over.compiled)) over.gives.0 over.builds.marks
 
 module _ (scan : List ℕ → Finding) (answer : Request → Exit) (asked : Testing) (failed : Bool) (old new : Moments) (sound : AreSound old) (events : List Event) where
   abbrev work : Work
   work = work_over records_in_image asked.order old.now
 
-  abbrev Over : Result Tested BuildFault → Type 0
+  abbrev Over : Result Tested RunFault → Type 0
   Over result = TestsOver records_in_image answer asked.order asked.plan result failed old new events
 
   -- it keeps the records, and has none to commit
-  abbrev Quiet : Result Tested BuildFault → Type 0
+  abbrev Quiet : Result Tested RunFault → Type 0
   Quiet result = RestsOver records_in_image (λ image. IsResting image) asked.order result old new (compile_part events)
 
-  ran_over : (result : Result Tested BuildFault) (over : Over result) (words : List (List ℕ)) (said : Outcome) → (over.build ≡ Err fault.NoMemory → said ≡ outcome.NoMemory) → (HasEnded said → (marks : List Mark) × (over.build ≡ Ok marks)) →
+  ran_over : (result : Result Tested RunFault) (over : Over result) (words : List (List ℕ)) (said : Outcome) → (over.build ≡ Err fault.NoMemory → said ≡ outcome.NoMemory) → (HasEnded said → (marks : List Mark) × (over.build ≡ Ok marks)) →
       (HasBuilt said → list_any is_refused (marks_of work over.compiled) ≡ false) → Quiet result → (HasEnded said → (tested : Tested) × (result ≡ Ok tested)) → RunsAs scan answer (Runs asked) (run_of words said failed events (added_since old new)) old.now new.now
   ran_over result over words said memory ends none rests answers =
       as_run scan answer asked (run_of words said failed events (added_since old new)) old.now new.now
@@ -171,10 +171,10 @@ module _ (scan : List ℕ → Finding) (answer : Request → Exit) (asked : Test
       (λ is. subst (λ (m : List Mark). list_any is_refused m ≡ false) (marked answer asked failed old new events tested over)
       (none_refused (setting_after asked.order asked.plan work over.compiled) asked.warnings asked.order.graph tested.marks asked.plan.runs asked.words tested.tests over.tests said over.gives.1 is (answered (built_said said is)))) rests (λ is. (tested, refl))
 
-  pub ran_faulted : (why : BuildFault) → Over (Err why) → (words : List (List ℕ)) → Quiet (Err why) → RunsAs scan answer (Runs asked) (run_of words (fault_outcome why) failed events (added_since old new)) old.now new.now
+  pub ran_faulted : (why : RunFault) → Over (Err why) → (words : List (List ℕ)) → Quiet (Err why) → RunsAs scan answer (Runs asked) (run_of words (fault_outcome why) failed events (added_since old new)) old.now new.now
   ran_faulted why over words rests =
       ran_over (Err why) over words (fault_outcome why) (λ is. ap fault_outcome (same_fault why fault.NoMemory (over.stops fault.NoMemory is).0)) (λ is. absurd (never_ended why is)) (λ is. absurd (never_built why is)) rests (λ is. absurd (never_ended why is)) where
-        same_fault : (why other : BuildFault) → ◌≡◌ {A = Result Tested BuildFault} (Err why) (Err other) → why ≡ other
+        same_fault : (why other : RunFault) → ◌≡◌ {A = Result Tested RunFault} (Err why) (Err other) → why ≡ other
         same_fault why other is = cc
 
 -- ## The tests
@@ -186,10 +186,10 @@ module _ (tells : Object → Type 0) (answer : Request → Exit) (asked : Testin
   abbrev built : Work
   built = work_over records_in_image asked.order before.moments.now
 
-  abbrev Tests : Result Tested BuildFault → Type 0
+  abbrev Tests : Result Tested RunFault → Type 0
   Tests result = TestsOver records_in_image answer asked.order asked.plan result failed before.moments after.moments events
 
-  module _ (result : Result Tested BuildFault) (over : Tests result) where
+  module _ (result : Result Tested RunFault) (over : Tests result) where
     moved : (P : List Event → List Event → Type 0) → P over.compiled over.tests → P (compile_part events) (test_part events)
     moved P p = subst (P (compile_part events)) (sym over.simulators) (subst (λ (l : List Event). P l over.tests) (sym over.compilers) p)
 
@@ -242,7 +242,7 @@ module _ (tells : Object → Type 0) (answer : Request → Exit) (asked : Testin
     writes = λ d c w. subst (λ (s : RunSaid). WritesReport asked.report s.report result before.report after.report) (same_said tested (over d c)) (writes w);
   }
 
-  pub tests_faulted : (why : BuildFault) → (tells Disk → tells Children → Tests (Err why)) → (result : Outcome) → result ≡ fault_outcome why → after.put ≡ before.put → after.report ≡ before.report → RunsTests tells answer asked result before after
+  pub tests_faulted : (why : RunFault) → (tells Disk → tells Children → Tests (Err why)) → (result : Outcome) → result ≡ fault_outcome why → after.put ≡ before.put → after.report ≡ before.report → RunsTests tells answer asked result before after
   tests_faulted why over result is put report = record {
     parted = λ d c. parts (Err why) (over d c);
     tested = λ d c. has_tested (Err why) (over d c);

@@ -7,8 +7,8 @@ use Rattle.base_outcomes.specs.declared.outcome.Outcome.{Outcome}
 use Rattle.base_outcomes.specs.declared.outcome.Outcome.TheVariants as outcome
 use Rattle.outside.specs.Counts.{Rose}
 use Rattle.outside.specs.FaultCounts.{RunFaultCounts, NoRunCountFell}
-use Rattle.build_loop.specs.declared.faults.BuildFault.{BuildFault}
-use Rattle.build_loop.specs.declared.faults.BuildFault.TheVariants as fault
+use Rattle.run_steps.specs.declared.fault.RunFault.{RunFault}
+use Rattle.run_steps.specs.declared.fault.RunFault.TheVariants as fault
 use Rattle.outside.specs.Streams.{AddsPrefix}
 use Rattle.run_histories.specs.Histories.{Order}
 use Rattle.report_run.specs.Outcomes.{build_outcome}
@@ -133,7 +133,7 @@ HasBuilt outcome.TestsFailed = Unit {0}
 HasBuilt answer = ⊥
 
 -- what a fault of a build or of its tests is answered by
-abbrev pub fault_outcome : BuildFault → Outcome
+abbrev pub fault_outcome : RunFault → Outcome
 fault_outcome fault.NoMemory = outcome.NoMemory
 fault_outcome fault.StartFailed = outcome.OutsideFault which.Start
 fault_outcome fault.ChildLost = outcome.OutsideFault which.Child

@@ -3,7 +3,7 @@
 ghost use Rattle.std.specs.Prelude.{◌≡◌, ◌≤◌, ◌<◌, ◌++◌, [], ℕ, List, Err, MatchOption, false};
 ghost use Rattle.outside.specs.FaultCounts.{RunFaultCounts, with_children, with_output};
 ghost use Rattle.run_spec.specs.ChildJournal.{since};
-ghost use Rattle.build_loop.specs.declared.faults.BuildFault.TheVariants as fault;
+ghost use Rattle.run_steps.specs.declared.fault.RunFault.TheVariants as fault;
 ghost use Rattle.vhdl_spec.specs.Scans.{Finding, IsScanner};
 ghost use Rattle.vunit_top.specs.Generated.{GeneratesAs};
 ghost use Rattle.vunit_top.specs.Reading.{Generates, generates, setting_job};

@@ -4,7 +4,6 @@
 mod children;
 mod ends;
 mod generating;
-mod lending;
 mod tests;
 mod top;
 mod words;

@@ -7,7 +7,7 @@ ghost use Rattle.run_spec.specs.ChildJournal.{since};
 ghost use Rattle.run_spec.specs.JournalParts.{is_given};
 ghost use Rattle.report_run.specs.Texts.{warning_text};
 ghost use Rattle.vhdl_spec.specs.Scans.{Finding};
-ghost use Rattle.build_loop.specs.Faults.{Explains};
+ghost use Rattle.run_steps.specs.Faults.{Explains};
 ghost use Rattle.run_build.specs.Building.{has_risen};
 ghost use Rattle.run_build.specs.Orders.{order_by};
 ghost use Rattle.project_reading.specs.Sources.{IsReadProject};
@@ -20,15 +20,14 @@ ghost use Rattle.vunit_top.specs.Reading.{Runs, chosen, testing_with, testing_of
 ghost use Rattle.vunit_top.specs.Runs.{RunsAs, run_of};
 ghost use Rattle.vunit_top.specs.Said.{IsAccounted, IsSaid, Said, SaysRun, fault_outcome, plain_run};
 
-use crate::lending::LendsTexts;
 use crate::words::RunOptions;
 use base::{CASE_LIMIT, Graph, MaybeText, NoMemory, SLOT_LIMIT, Text};
 use base_outcomes::{Outcome, Which};
-use build_loop::BuildFault;
 use outside::{Disk, Procs, ReportFault, Reports, Sink, SinkFault};
 use project_reading::{ReadProject, Wish};
 use report_run::warning_text;
 use report_tested::{RunSaid, TestWords, said_of_run};
+use run_steps::RunFault;
 use run_tested::{Tested, test_over};
 use std::alloc::Global;
 use store_requests::RequestStore;
@@ -36,14 +35,14 @@ use test_plan::planned_runs;
 use test_spec::TestRunList;
 
 /// The answer of a run after a fault of its build or of its tests.
-pub fn fault_outcome(fault: BuildFault) -> Outcome
+pub fn fault_outcome(fault: RunFault) -> Outcome
     ensures { result ≡ fault_outcome fault }
 {
     match fault {
-        BuildFault::NoMemory => Outcome::NoMemory,
-        BuildFault::StartFailed => Outcome::OutsideFault(Which::Start),
-        BuildFault::ChildLost => Outcome::OutsideFault(Which::Child),
-        BuildFault::DiskFailed => Outcome::OutsideFault(Which::Disk),
+        RunFault::NoMemory => Outcome::NoMemory,
+        RunFault::StartFailed => Outcome::OutsideFault(Which::Start),
+        RunFault::ChildLost => Outcome::OutsideFault(Which::Child),
+        RunFault::DiskFailed => Outcome::OutsideFault(Which::Disk),
     }
 }
 
@@ -225,14 +224,13 @@ fn test_planned<D: Disk, P: Procs, O: Sink, R: Reports>(
         (with_output O.Sink out.new (with_reports R.Reports reports.new others))) }
 {
     let Planned { warnings, runs } = planned;
-    match test_over::<RequestStore<'_>, LendsTexts, D, P>(
+    match test_over::<RequestStore<'_>, D, P>(
         alloc,
         &read.graph,
         options.build,
         &runs,
         &read.project.simulator,
         options.fail_fast,
-        &LendsTexts,
         disk,
         procs,
     ) {

@@ -35,18 +35,17 @@ use crate::ends::{
     say, say_build, say_files, say_limit, say_refusal, say_tests, say_usage, write_report,
 };
 use crate::generating::{generated_by, say_generated};
-use crate::lending::LendsTexts;
 use crate::tests::test_project;
 use crate::words::{Job, begins_with, job_of, wish_of};
 use base::{FILE_LIMIT, Graph, NoMemory, SLOT_LIMIT, Text, TextList};
 use base_outcomes::{Limit, Outcome, Refusal, Which};
-use build_loop::BuildFault;
 use outside::{Disk, Procs, Reports, Sink, Source, Tree};
 use project_reading::{ReadProject, ReadStop, chosen, read_project};
 use report_lists::export_json;
 use report_run::warning_text;
 use run_build::{BuildOptions, build_over};
 use run_command_line::{Setting, WordsFault, read_words};
+use run_steps::RunFault;
 use std::alloc::Global;
 use store_requests::RequestStore;
 
@@ -91,19 +90,12 @@ fn build_graph<D: Disk, P: Procs, O: Sink>(
         (with_build P.Procs D.Disk procs.old disk.old (with_output O.Sink out.old others))
         (with_build P.Procs D.Disk procs.new disk.new (with_output O.Sink out.new others)) }
 {
-    match build_over::<RequestStore<'_>, LendsTexts, D, P>(
-        alloc,
-        graph,
-        options,
-        &LendsTexts,
-        disk,
-        procs,
-    ) {
+    match build_over::<RequestStore<'_>, D, P>(alloc, graph, options, disk, procs) {
         Ok(marks) => say_build(alloc, warnings, graph, &marks, out),
-        Err(BuildFault::NoMemory) => Outcome::NoMemory,
-        Err(BuildFault::StartFailed) => Outcome::OutsideFault(Which::Start),
-        Err(BuildFault::ChildLost) => Outcome::OutsideFault(Which::Child),
-        Err(BuildFault::DiskFailed) => Outcome::OutsideFault(Which::Disk),
+        Err(RunFault::NoMemory) => Outcome::NoMemory,
+        Err(RunFault::StartFailed) => Outcome::OutsideFault(Which::Start),
+        Err(RunFault::ChildLost) => Outcome::OutsideFault(Which::Child),
+        Err(RunFault::DiskFailed) => Outcome::OutsideFault(Which::Disk),
     }
 }
 

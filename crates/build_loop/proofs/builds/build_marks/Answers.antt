@@ -5,11 +5,12 @@ use Rattle.outside.specs.FaultCounts.{build_counts}
 use Rattle.run_spec.specs.declared.marks.Mark.{Mark}
 use Rattle.run_steps.specs.declared.step.Step.{Step}
 use Rattle.build_slots.specs.declared.step.BuildStep.TheVariants.{Run}
-use Rattle.build_loop.specs.Faults.{CountsBy}
+use Rattle.run_steps.specs.Faults.{CountsBy}
 use Rattle.build_loop.specs.UnderWay.{IsJournalled}
 use Rattle.build_loop.proofs.Gathering.{gathered_still}
 use Rattle.build_loop.proofs.UnderWayThen.{marks_count, none_noted, started_at, nothing_noted, start_recorded, check_recorded}
-use Rattle.build_loop.proofs.WholeBuilds.{first_under_way, first_journal, holds_nothing, on_false, counts_at_first, ran_nothing, ran_done, ran_fault, marks_recorded, goes_by, goes_on}
+use Rattle.build_loop.proofs.WholeBuilds.{first_under_way, first_journal, holds_nothing, on_false, ran_nothing, ran_done, ran_fault, marks_recorded, goes_by, goes_on}
+use Rattle.run_steps.proofs.CountsAtFirst.{counts_at_first}
 use Rattle.build_loop.proofs.builds.build_marks.Goals as goal
 
 pub returns-in_default-clause-ran : goal.returns-in_default-clause-ran
@@ -28,7 +29,7 @@ loop-at-init g c = record {
   same = c.expects.ensures.same;
   files = c.in-Ok.ensures.files;
   in_step = λ tells. on_false (g.K.Records.broken c.args.store.now) (c.requires.in_step tells);
-  seated = c.requires.seated;
+  over = c.requires.over;
   gathered = c.new-gathered.ensures (g.K.Records.latest_of c.args.store.now) c.args.graph.now;
   counts = subst₂ (λ (starts losses : ℕ). CountsBy None (g.K.Records.broken c.args.store.now)
       (build_counts g.P.Procs g.D.Disk c.args.procs.now c.args.disk.now)
@@ -56,7 +57,7 @@ loop-at-preserved-in-Run-Start g c =
       same = c.start_one.ensures.same ∙ before.same;
       files = c.start_one.ensures.files ∙ before.files;
       in_step = before.in_step;
-      seated = before.seated;
+      over = before.over;
       gathered = c.start_one.ensures.gathered;
       counts = c.start_one.ensures.counts _ _ _ before.counts;
     }
@@ -70,7 +71,7 @@ loop-at-preserved g c =
       same = c.end_one.ensures.same ∙ before.same;
       files = c.end_one.ensures.files ∙ before.files;
       in_step = c.end_one.ensures.in_step;
-      seated = c.end_one.ensures.seated;
+      over = c.end_one.ensures.over;
       gathered = gathered_still c.args.graph.now before.going.under_way.is_graph _ _ c.loop-at.gathered
           (c.end_one.ensures.keeps c.loop-at.gathered.count before.gathered.recorded) before.gathered;
       counts = c.end_one.ensures.counts _ before.counts;
@@ -123,7 +124,7 @@ loop-at-preserved-else-fresh g c =
       same = before.same;
       files = c.check_one-fresh.ensures.files ∙ before.files;
       in_step = before.in_step;
-      seated = before.seated;
+      over = before.over;
       gathered = before.gathered;
       counts = before.counts;
     }
@@ -143,7 +144,7 @@ loop-at-preserved-then-fresh g c =
       same = c.spares.ensures.same ∙ before.same;
       files = c.check_one-fresh.ensures.files ∙ before.files;
       in_step = before.in_step;
-      seated = before.seated;
+      over = before.over;
       gathered = before.gathered;
       counts = subst₂ (λ (starts losses : ℕ). CountsBy c.loop-at.noted (g.K.Records.broken c.loop-at.store)
           (build_counts g.P.Procs g.D.Disk c.args.procs.now c.args.disk.now)

@@ -3,7 +3,7 @@ use Rattle.std.proofs.Common.{◌≡◌, length}
 use Rattle.std.specs.Bool.{OnFalse}
 use Rattle.outside.specs.FaultCounts.{build_counts}
 use Rattle.build_slots.specs.Machines.{tickets_of, files_of, to_come}
-use Rattle.build_loop.specs.Faults.{CountsBy}
+use Rattle.run_steps.specs.Faults.{CountsBy}
 use Rattle.build_loop.specs.Requests.{IsGathered}
 use Rattle.build_loop.specs.UnderWay.{Goes}
 use Rattle.build_loop.proofs.builds.build_marks.Given as goal
@@ -18,7 +18,7 @@ invariant-loop-at g l = record {
   same : g.P.Procs.answer l.procs ≡ g.P.Procs.answer l.fn.procs;
   files : files_of l.slots ≡ length l.graph;
   in_step : g.D.Disk.tells → OnFalse (g.K.Records.broken l.store) (g.K.Records.in_step l.store (g.D.Disk.moments l.disk).now);
-  seated : g.K.Records.is_seated l.store l.graph l.seats;
+  over : g.K.Records.is_over l.store l.graph;
   gathered : IsGathered (g.K.Records.latest_of l.store) l.graph l.gathered;
   counts : CountsBy l.noted (g.K.Records.broken l.store)
       (build_counts g.P.Procs g.D.Disk l.fn.procs l.fn.disk)

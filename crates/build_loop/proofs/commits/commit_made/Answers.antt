@@ -10,9 +10,9 @@ use Rattle.build_loop.proofs.Lent.{item_at}
 use Rattle.build_loop.proofs.Preparing.{record_now}
 use Rattle.build_loop.proofs.commits.commit_made.Goals as goal
 
-pub commit_ready-requires-clause-seated : goal.commit_ready-requires-clause-seated
-commit_ready-requires-clause-seated g c =
-    (c.args.graph.now, c.in-Ok.ensures.seats c.args.graph.now c.args.seats.now c.requires.seated, subst (λ (p : ℕ). p < length c.args.graph.now) (sym c.in-Ok.ensures.at) c.requires.position)
+pub commit_ready-requires-clause-over : goal.commit_ready-requires-clause-over
+commit_ready-requires-clause-over g c =
+    (c.args.graph.now, c.in-Ok.ensures.over c.args.graph.now c.requires.over, subst (λ (p : ℕ). p < length c.args.graph.now) (sym c.in-Ok.ensures.at) c.requires.position)
 
 pub returns-in-Ok-clause-latest : goal.returns-in-Ok-clause-latest
 returns-in-Ok-clause-latest g c = λ name.
@@ -29,9 +29,9 @@ returns-in-Ok-clause-images g c = λ tells.
     (c.in-Ok.ensures.record entry.0 entry.1 ∙ record_now c.args.graph.now c.args.at entry.0 (g.K.Records.latest_of c.args.store.now) c.args.artefact.now entry.1)
     (c.commit_ready.ensures.images tells)
 
-pub returns-in-Ok-clause-seated : goal.returns-in-Ok-clause-seated
-returns-in-Ok-clause-seated g c =
+pub returns-in-Ok-clause-over : goal.returns-in-Ok-clause-over
+returns-in-Ok-clause-over g c =
     let entry = item_at c.args.graph.now c.args.at c.requires.position in
-    c.commit_ready.ensures.seats c.args.graph.now entry.0 c.len.ensures.graph (c.in-Ok.ensures.seats c.args.graph.now c.args.seats.now c.requires.seated)
+    c.commit_ready.ensures.over c.args.graph.now entry.0 c.len.ensures.graph (c.in-Ok.ensures.over c.args.graph.now c.requires.over)
     (ap (slice_get c.args.graph.now) c.in-Ok.ensures.at ∙ entry.1)
     (sym (ap (λ (r : Record). r.asked.name) (c.in-Ok.ensures.record entry.0 entry.1)))

@@ -8,7 +8,7 @@ use Rattle.outside.specs.declared.procs.WaitFault.{WaitFault}
 use Rattle.outside.specs.Counts.{ChildCounts}
 use Rattle.outside.specs.Records.{Record}
 use Rattle.build_loop.specs.Commits.{HoldsFirst}
-use Rattle.build_loop.specs.Faults.{CountsBy}
+use Rattle.run_steps.specs.Faults.{CountsBy}
 use Rattle.build_loop.specs.UnderWay.{BuildState, work_from}
 use Rattle.build_loop.proofs.UnderWayThen.{commits_fault}
 use Rattle.build_loop.proofs.JournalThen.{journal_ended, journal_lost}

@@ -2,7 +2,7 @@
 use Rattle.std.proofs.Common.{◌≡◌, ◌+◌, ◌++◌, ◌∷◌, [], true, false, Option, refl, sym, ap, subst, ◌∙◌, arith}
 use Rattle.std.specs.Prelude.{is_some}
 use Rattle.std.proofs.lemmas.Bool.{eq-eqb, ne_eqb}
-use Rattle.build_loop.specs.declared.faults.BuildFault.{BuildFault}
+use Rattle.run_steps.specs.declared.fault.RunFault.{RunFault}
 use Rattle.base.specs.declared.child.Event.TheVariants.{Ended}
 use Rattle.build_loop.specs.Faults.{is_all_committed, ComesFirst}
 use Rattle.build_loop.specs.UnderWay.{work_from}
@@ -49,10 +49,10 @@ returns-clause-goes g c = λ from events acknowledged is holds.
     (c.ended-at.ensures.position _ _ is.in_step) (c.ended-at.ensures.lawful _ _ c.args.exit.output is.in_step) (c.ended-at.ensures.greedy _ _ c.args.exit.output is.in_step c.requires.step) (c.ended-at.ensures.in_step _ _ c.args.exit.output is.in_step) (c.ended-at.ensures.here _ _ is.in_step) c.ended-at.ensures.checked c.ended-at.ensures.stopped is.in_step.free
     (eq-eqb c.args.exit.code 0 c.if-code-ne0.false) (sym (ap (is_all_committed c.args.noted.now) c.is_broken.ensures) ∙ sym c.is_committing.ensures ∙ c.if-not-is_committing.false) false c.halt.new.slots c.halt.new.noted (g.K.Records.latest_of c.commit_made.new.store) (g.K.Records.broken c.commit_made.new.store) (g.D.Disk.moments c.commit_made.new.disk)
     (λ n. not_noted _ (sym c.halt.ensures.noted ∙ n))
-    (λ all. failed_commit c.args.noted.now c.in-Err.fault _ _ c.in-Err.ensures.cause (g.K.Records.broken c.commit_made.new.store) c.in-Err.ensures.broken (subst (λ (o : Option BuildFault). is_all_committed o (g.K.Records.broken c.commit_made.new.store) ≡ true) c.halt.ensures.noted all))
+    (λ all. failed_commit c.args.noted.now c.in-Err.fault _ _ c.in-Err.ensures.cause (g.K.Records.broken c.commit_made.new.store) c.in-Err.ensures.broken (subst (λ (o : Option RunFault). is_all_committed o (g.K.Records.broken c.commit_made.new.store) ≡ true) c.halt.ensures.noted all))
     c.halt.ensures.checked (c.halt.ensures.stopped ∙ sym (ap is_some c.halt.ensures.noted))
     (λ job core step. c.halt.ensures.in_step job core _ step) c.in-Err.ensures.latest c.in-Err.ensures.images
-    (subst (λ (o : Option BuildFault). ComesFirst o (work_from c.args.graph.now from) (events ++ Ended c.args.ticket c.args.exit ∷ []) (acknowledged + 0) (g.K.Records.broken c.commit_made.new.store)) (sym c.halt.ensures.noted)
+    (subst (λ (o : Option RunFault). ComesFirst o (work_from c.args.graph.now from) (events ++ Ended c.args.ticket c.args.exit ∷ []) (acknowledged + 0) (g.K.Records.broken c.commit_made.new.store)) (sym c.halt.ensures.noted)
     (first_failed g.D.Disk.tells g.K.Records.records_of c.args.graph.now from events acknowledged _ (g.D.Disk.moments c.args.disk.now) is holds c.args.ticket c.ended-at.result c.args.exit (omega (arith, c.ended-at.ensures.within, c.requires.files)) c.ended-at.new.self
     (c.ended-at.ensures.position _ _ is.in_step) (c.ended-at.ensures.lawful _ _ c.args.exit.output is.in_step) (c.ended-at.ensures.greedy _ _ c.args.exit.output is.in_step c.requires.step) (c.ended-at.ensures.in_step _ _ c.args.exit.output is.in_step) (c.ended-at.ensures.here _ _ is.in_step) c.ended-at.ensures.checked c.ended-at.ensures.stopped is.in_step.free
     (eq-eqb c.args.exit.code 0 c.if-code-ne0.false) (sym (ap (is_all_committed c.args.noted.now) c.is_broken.ensures) ∙ sym c.is_committing.ensures ∙ c.if-not-is_committing.false)

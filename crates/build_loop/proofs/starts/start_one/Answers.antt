@@ -4,7 +4,7 @@ use Rattle.std.proofs.lemmas.List.{append-nil}
 use Rattle.base.specs.declared.child.Event.{Event}
 use Rattle.base.specs.declared.child.Event.TheVariants.{Started}
 use Rattle.run_spec.specs.Commits.{commits}
-use Rattle.build_loop.specs.declared.faults.BuildFault.{BuildFault}
+use Rattle.run_steps.specs.declared.fault.RunFault.{RunFault}
 use Rattle.std.specs.Prelude.{is_some}
 use Rattle.run_spec.specs.ChildJournal.{job_of, core_of, book_of}
 use Rattle.build_slots.specs.Machines.{IsMachineOf}
@@ -36,9 +36,9 @@ returns-in-Err-clause-goes g c = λ from events acknowledged marks broken is jou
     let before : BuildState = record { machine = c.args.slots.now; marks = marks; noted = c.args.noted.now; latest_of = g.K.Records.latest_of c.args.store.now; broken = broken } in
     let none : events ++ [] ≡ events = append-nil events in
     let halted : IsUnderWay c.args.graph.now from events acknowledged (with_machine c.halt.new.slots c.halt.new.noted before) =
-    subst (λ (o : Option BuildFault). IsUnderWay c.args.graph.now from events acknowledged (with_machine c.halt.new.slots o before)) (sym c.halt.ensures.noted)
+    subst (λ (o : Option RunFault). IsUnderWay c.args.graph.now from events acknowledged (with_machine c.halt.new.slots o before)) (sym c.halt.ensures.noted)
     (halted_under_way c.args.graph.now from events acknowledged before is c.halt.new.slots _ c.halt.ensures.checked c.halt.ensures.stopped
-    (subst (λ (o : Option BuildFault). IsMachineOf c.halt.new.slots (job_of (work_from c.args.graph.now from)) (halted_if (is_some o) (core_of (book_of (work_from c.args.graph.now from) events)))) c.halt.ensures.noted (c.halt.ensures.in_step _ _ _ is.in_step))
+    (subst (λ (o : Option RunFault). IsMachineOf c.halt.new.slots (job_of (work_from c.args.graph.now from)) (halted_if (is_some o) (core_of (book_of (work_from c.args.graph.now from) events)))) c.halt.ensures.noted (c.halt.ensures.in_step _ _ _ is.in_step))
     (still_all c.args.noted.now c.in-Err.fault broken)
     (first_start (work_from c.args.graph.now from) events acknowledged broken c.args.noted.now c.in-Err.fault _ _ c.requires.unnoted c.in-Err.ensures.starts)) in
     record {

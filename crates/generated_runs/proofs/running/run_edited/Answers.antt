@@ -3,7 +3,7 @@ use Rattle.std.proofs.Common.{◌≡◌, ℕ, Err, sym, subst}
 use Rattle.project_reading.specs.Reading.{SourceReading, Found}
 use Rattle.project_reading.specs.Sources.{LeadsTo}
 use Rattle.project_reading.specs.declared.wish.Extent.TheVariants.{Tests}
-use Rattle.build_loop.specs.declared.faults.BuildFault.TheVariants as fault
+use Rattle.run_steps.specs.declared.fault.RunFault.TheVariants as fault
 use Rattle.run_spec.specs.ChildJournal.{since}
 use Rattle.run_build.proofs.OverStore.{since_itself}
 use Rattle.generated_project.specs.Files.{generated_files}

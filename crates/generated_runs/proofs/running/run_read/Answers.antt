@@ -6,9 +6,9 @@ use Rattle.base.specs.declared.child.Request.{Request}
 use Rattle.base.specs.declared.child.Exit.{Exit}
 use Rattle.outside.specs.FaultCounts.{BuildFaultCounts, child_counts}
 use Rattle.outside.proofs.FaultCountLaws.{no_fall_twice}
-use Rattle.build_loop.specs.Faults.{Explains, fault_of}
+use Rattle.run_steps.specs.Faults.{Explains, fault_of}
 use Rattle.build_loop.specs.Ran.{is_made}
-use Rattle.build_loop.specs.declared.faults.BuildFault.TheVariants as fault
+use Rattle.run_steps.specs.declared.fault.RunFault.TheVariants as fault
 use Rattle.memory_outside.specs.Disks.{moments_of}
 use Rattle.run_spec.specs.Marks.{is_compiled}
 use Rattle.run_spec.specs.ChildJournal.{since}

@@ -12,7 +12,7 @@ returns-in-Ok-build_marks-clause-told g c = λ tells runs.
     let failures = g.D.Disk.failed_disk_calls in
     opened_over g.K.Records.records_of (g.P.Procs.answer c.args.procs.now) _ c.len.ensures.graph (g.D.Disk.moments c.args.disk.now) (g.D.Disk.moments c.open_store.new.disk) (g.D.Disk.moments c.build_marks.new.disk)
     (g.met.D.Disk.sound c.build_marks.new.disk) opened.follows opened.opening opened.base
-    (g.K.Records.latest_of c.in-Ok.field-0.store) (g.K.Records.latest_of c.build_marks.new.store) (record { durable = g.met.K.Records.durable _ _ opening; held = λ name. g.met.K.Records.held _ _ name opening })
+    (g.K.Records.latest_of c.in-Ok.store) (g.K.Records.latest_of c.build_marks.new.store) (record { durable = g.met.K.Records.durable _ _ opening; held = λ name. g.met.K.Records.held _ _ name opening })
     _ _ runs tells (Ok c.in-Ok-build_marks.marks) (g.P.Procs.journal c.args.procs.now) (g.P.Procs.journal c.build_marks.new.procs) _ _
     made.ran made.recorded
     (knows_if _ _ (Ok c.in-Ok-build_marks.marks) _ made.usable (made.in_step tells) (λ in_step. record { durable = g.met.K.Records.durable _ _ in_step; held = λ name. g.met.K.Records.held _ _ name in_step }))
@@ -31,7 +31,7 @@ returns-in-Ok-build_marks-clause-lent g c = λ tells runs made_all.
     let opening = c.in-Ok.ensures.in_step tells in
     opened_lent g.K.Records.records_of (g.P.Procs.answer c.args.procs.now) _ c.len.ensures.graph (g.D.Disk.moments c.args.disk.now) (g.D.Disk.moments c.open_store.new.disk) (g.D.Disk.moments c.build_marks.new.disk)
     (g.met.D.Disk.sound c.build_marks.new.disk) opened.follows opened.opening opened.base
-    (g.K.Records.latest_of c.in-Ok.field-0.store) (g.K.Records.latest_of c.build_marks.new.store) (record { durable = g.met.K.Records.durable _ _ opening; held = λ name. g.met.K.Records.held _ _ name opening })
+    (g.K.Records.latest_of c.in-Ok.store) (g.K.Records.latest_of c.build_marks.new.store) (record { durable = g.met.K.Records.durable _ _ opening; held = λ name. g.met.K.Records.held _ _ name opening })
     _ _ runs tells (Ok c.in-Ok-build_marks.marks) (g.P.Procs.journal c.args.procs.now) (g.P.Procs.journal c.build_marks.new.procs) _ false
     made.ran (ap not made.usable) c.in-Ok-build_marks.marks made.ran.says made_all
 
@@ -43,7 +43,7 @@ returns-in-Err-clause-told g c = λ tells runs.
     let failures = g.D.Disk.failed_disk_calls in
     opened_over g.K.Records.records_of (g.P.Procs.answer c.args.procs.now) _ c.len.ensures.graph (g.D.Disk.moments c.args.disk.now) (g.D.Disk.moments c.open_store.new.disk) (g.D.Disk.moments c.build_marks.new.disk)
     (g.met.D.Disk.sound c.build_marks.new.disk) opened.follows opened.opening opened.base
-    (g.K.Records.latest_of c.in-Ok.field-0.store) (g.K.Records.latest_of c.build_marks.new.store) (record { durable = g.met.K.Records.durable _ _ opening; held = λ name. g.met.K.Records.held _ _ name opening })
+    (g.K.Records.latest_of c.in-Ok.store) (g.K.Records.latest_of c.build_marks.new.store) (record { durable = g.met.K.Records.durable _ _ opening; held = λ name. g.met.K.Records.held _ _ name opening })
     _ _ runs tells (Err c.in-Err.fault) (g.P.Procs.journal c.args.procs.now) (g.P.Procs.journal c.build_marks.new.procs) _ _
     made.ran made.recorded
     tt
@@ -79,7 +79,7 @@ returns-in-Ok-build_marks-clause-rests g c = λ tells runs clean resting none.
     rests_still _ _ _ _ _ (c.in-Ok.ensures.rests tells clean resting)
     (opened_untouched g.K.Records.records_of (g.P.Procs.answer c.args.procs.now) (order_by c.args.options c.args.graph.now) c.len.ensures.graph (g.D.Disk.moments c.args.disk.now) (g.D.Disk.moments c.open_store.new.disk) (g.D.Disk.moments c.build_marks.new.disk)
     (g.met.D.Disk.sound c.build_marks.new.disk) opened.follows opened.opening opened.base
-    (g.K.Records.latest_of c.in-Ok.field-0.store) (g.K.Records.latest_of c.build_marks.new.store) (record { durable = g.met.K.Records.durable _ _ opening; held = λ name. g.met.K.Records.held _ _ name opening })
+    (g.K.Records.latest_of c.in-Ok.store) (g.K.Records.latest_of c.build_marks.new.store) (record { durable = g.met.K.Records.durable _ _ opening; held = λ name. g.met.K.Records.held _ _ name opening })
     _ _ runs tells (Ok c.in-Ok-build_marks.marks) (g.P.Procs.journal c.args.procs.now) (g.P.Procs.journal c.build_marks.new.procs) _ false
     made.ran none)
 
@@ -91,7 +91,7 @@ returns-in-Err-clause-rests g c = λ tells runs clean resting none.
     rests_still _ _ _ _ _ (c.in-Ok.ensures.rests tells clean resting)
     (opened_untouched g.K.Records.records_of (g.P.Procs.answer c.args.procs.now) (order_by c.args.options c.args.graph.now) c.len.ensures.graph (g.D.Disk.moments c.args.disk.now) (g.D.Disk.moments c.open_store.new.disk) (g.D.Disk.moments c.build_marks.new.disk)
     (g.met.D.Disk.sound c.build_marks.new.disk) opened.follows opened.opening opened.base
-    (g.K.Records.latest_of c.in-Ok.field-0.store) (g.K.Records.latest_of c.build_marks.new.store) (record { durable = g.met.K.Records.durable _ _ opening; held = λ name. g.met.K.Records.held _ _ name opening })
+    (g.K.Records.latest_of c.in-Ok.store) (g.K.Records.latest_of c.build_marks.new.store) (record { durable = g.met.K.Records.durable _ _ opening; held = λ name. g.met.K.Records.held _ _ name opening })
     _ _ runs tells (Err c.in-Err.fault) (g.P.Procs.journal c.args.procs.now) (g.P.Procs.journal c.build_marks.new.procs) _ false
     made.ran none)
 

@@ -14,3 +14,15 @@ pub run_tests-requires-clause-recorded : goal.run_tests-requires-clause-recorded
 run_tests-requires-clause-recorded g c =
     let made : list_all is_made c.args.kept.marks ≡ true = cc in
     all_recorded c.args.kept.marks _ c.args.graph.now c.requires.count made c.requires.recorded
+
+pub returns-in-Ok-clause-fell : goal.returns-in-Ok-clause-fell
+returns-in-Ok-clause-fell g c = λ disks. (c.in-Ok.ensures.counts disks).none_fell
+
+pub returns-in-Ok-clause-explains : goal.returns-in-Ok-clause-explains
+returns-in-Ok-clause-explains g c = λ disks. (c.in-Ok.ensures.counts disks).explains
+
+pub returns-in-Err-clause-fell : goal.returns-in-Err-clause-fell
+returns-in-Err-clause-fell g c = λ disks. (c.in-Err.ensures.counts disks).none_fell
+
+pub returns-in-Err-clause-explains : goal.returns-in-Err-clause-explains
+returns-in-Err-clause-explains g c = λ disks. (c.in-Err.ensures.counts disks).explains

@@ -6,7 +6,7 @@ use Rattle.base.specs.declared.child.Event.{Event}
 use Rattle.outside.specs.FaultCounts.{NoBuildCountFell, build_counts}
 use Rattle.run_spec.specs.ChildJournal.{since}
 use Rattle.run_spec.specs.JournalParts.{compile_part}
-use Rattle.build_loop.specs.Faults.{Explains, fault_of}
+use Rattle.run_steps.specs.Faults.{Explains, fault_of}
 use Rattle.run_build.specs.Building.{RestsOver, has_risen}
 use Rattle.run_build.specs.Orders.{order_by}
 use Rattle.run_tested.specs.Tested.{TestsOver}

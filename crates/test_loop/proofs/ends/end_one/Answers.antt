@@ -1,5 +1,5 @@
 -- Answers to the goals of `end_one`.
-use Rattle.std.proofs.Common.{◌++◌, [], ◌∷◌, List, ℕ, Result, Err, sym, ap, subst, ◌∙◌}
+use Rattle.std.proofs.Common.{◌++◌, [], ◌∷◌, List, ℕ, false, Result, Err, sym, ap, subst, ◌∙◌}
 use Rattle.std.proofs.lemmas.List.{append_assoc}
 use Rattle.base.specs.declared.child.Event.{Event}
 use Rattle.base.specs.declared.child.Event.TheVariants as event
@@ -7,7 +7,7 @@ use Rattle.outside.specs.Children.{end_event}
 use Rattle.outside.specs.declared.procs.Ended.{Ended}
 use Rattle.outside.specs.declared.procs.WaitFault.{WaitFault}
 use Rattle.outside.specs.Counts.{ChildCounts}
-use Rattle.test_loop.specs.Faults.{TestsCountBy}
+use Rattle.run_steps.specs.Faults.{CountsBy}
 use Rattle.test_loop.proofs.FreshTickets.{fresh_ended, fresh_lost}
 use Rattle.test_loop.proofs.Answering.{answers_ended, answers_lost}
 use Rattle.test_loop.proofs.ends.end_one.Goals as goal
@@ -35,7 +35,7 @@ returns-in-Err-clause-goes g c = λ answer same simulator built slots fail_fast 
     }
 
 pub returns-in-Err-clause-counts : goal.returns-in-Err-clause-counts
-returns-in-Err-clause-counts g c = λ first counts.
+returns-in-Err-clause-counts g c = λ first disks counts.
     let cause = subst (λ (r : Result Ended WaitFault). ChildCounts r (g.P.Procs.lost_children c.args.procs.now) (g.P.Procs.lost_children c.wait_any.new.self)) c.in-Err.is c.wait_any.ensures.cause in
-    subst (λ (starts : ℕ). TestsCountBy c.lose_by.new.noted first (record { starts = starts; losses = g.P.Procs.lost_children c.wait_any.new.self }))
+    subst (λ (starts : ℕ). CountsBy c.lose_by.new.noted false first (record { children = record { starts = starts; losses = g.P.Procs.lost_children c.wait_any.new.self }; disks = disks }))
     (sym c.wait_any.ensures.starts) (c.lose_by.ensures.counts first _ (g.P.Procs.lost_children c.wait_any.new.self) cause counts)

@@ -1,13 +1,10 @@
 -- Answers to the goals of `take_exit`.
-use Rattle.std.proofs.Common.{Option, refl, sym, ap, subst, ◌∙◌, true, arith}
+use Rattle.std.proofs.Common.{ap, ◌∙◌, true, arith}
 use Rattle.std.specs.Prelude.{is_some}
 use Rattle.std.proofs.Math.ListN.{set}
 use Rattle.test_spec.specs.declared.ends.RunEnd.{RunEnd}
 use Rattle.test_journal.specs.TestJournal.{TestSetting}
-use Rattle.test_loop.specs.declared.faults.TestRunFault.{TestRunFault}
-use Rattle.test_loop.specs.Faults.{TestsCountBy}
 use Rattle.test_loop.specs.UnderWay.{tests_with}
-use Rattle.test_loop.proofs.Counting.{counts_out}
 use Rattle.test_loop.proofs.Found.{found_ended, passed_is}
 use Rattle.test_loop.proofs.TestsThen.{ended_then, given_up_then}
 use Rattle.test_loop.proofs.ends.take_exit.Goals as goal
@@ -30,7 +27,3 @@ returns-in-Err-clause-goes c = λ simulator built slots fail_fast events is.
     let setting : TestSetting = tests_with c.args.runs.now simulator built slots fail_fast in
     given_up_then setting events c.args.row.now c.args.found.now.items _ is (is_some c.note.new.noted) (ap is_some c.note.ensures) c.given_up.new.self c.args.found.now.items c.args.ticket c.args.exit.now
     (c.given_up.ensures.lawful _ _ true c.args.exit.now.output is.in_step) (λ ok. c.given_up.ensures.in_step _ _ ok c.args.exit.now.output is.in_step)
-
-pub returns-in-Err-clause-counts : goal.returns-in-Err-clause-counts
-returns-in-Err-clause-counts c = λ first now is.
-    subst (λ (o : Option TestRunFault). TestsCountBy o first now) (sym c.note.ensures) (counts_out c.args.noted.now first now.starts now.losses now.losses refl is)

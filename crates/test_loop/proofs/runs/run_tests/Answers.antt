@@ -1,14 +1,15 @@
 -- Answers to the goals of `run_tests`.
-use Rattle.std.proofs.Common.{ℕ, None, length, refl, sym, ap, subst, subst₂, ◌∙◌}
+use Rattle.std.proofs.Common.{ℕ, false, Option, None, length, refl, sym, ap, subst, subst₂, ◌∙◌}
 use Rattle.std.specs.Prelude.{is_some}
 use Rattle.std.proofs.lemmas.List.{length-map}
 use Rattle.outside.specs.FaultCounts.{child_counts}
 use Rattle.test_spec.specs.Verdicts.{unstarted_run}
 use Rattle.test_journal.specs.TestJournal.{TestSetting, test_job}
 use Rattle.test_loop.specs.Requests.{lent_files}
-use Rattle.test_loop.specs.Faults.{TestsCountBy}
+use Rattle.run_steps.specs.Faults.{CountsBy}
+use Rattle.run_steps.specs.declared.fault.RunFault.{RunFault}
 use Rattle.test_loop.specs.UnderWay.{Goes, tests_with}
-use Rattle.test_loop.proofs.Counting.{counts_at_first}
+use Rattle.run_steps.proofs.CountsAtFirst.{counts_at_first}
 use Rattle.test_loop.proofs.TestsThen.{nothing_noted}
 use Rattle.test_loop.proofs.WholeTests.{first_going, none_if, started_at, ran_nothing, ran_fault, ran_done}
 use Rattle.test_loop.proofs.runs.run_tests.Goals as goal
@@ -33,8 +34,8 @@ loop-at-init g c =
       same = c.expects.ensures.same;
       runs = c.in-Ok.ensures.runs;
       found = ap length c.in-Ok.ensures.found ∙ length-map c.args.runs.now unstarted_run;
-      counts = subst₂ (λ (starts losses : ℕ). TestsCountBy None (child_counts g.P.Procs c.args.procs.now) (record { starts = starts; losses = losses }))
-          (sym c.expects.ensures.starts) (sym c.expects.ensures.children) (counts_at_first _);
+      counts = λ disks. subst₂ (λ (starts losses : ℕ). CountsBy None false (record { children = child_counts g.P.Procs c.args.procs.now; disks = disks }) (record { children = record { starts = starts; losses = losses }; disks = disks }))
+          (sym c.expects.ensures.starts) (sym c.expects.ensures.children) (counts_at_first false _ refl);
     }
 
 pub start_one-requires-clause-unnoted : goal.start_one-requires-clause-unnoted
@@ -51,8 +52,30 @@ loop-at-preserved-in-Start g c =
       same = c.start_one.ensures.same ∙ before.same;
       runs = c.start_one.ensures.runs ∙ before.runs;
       found = before.found;
-      counts = c.start_one.ensures.counts _ before.counts;
+      counts = λ disks. c.start_one.ensures.counts _ disks (before.counts disks);
     }
+
+pub loop-at-preserved : goal.loop-at-preserved
+loop-at-preserved g c =
+    let before = c.loop-at.invariant in
+    record {
+      going = c.end_one.ensures.goes _ before.same _ _ _ _ _ before.going;
+      running = c.end_one.ensures.running;
+      same = c.end_one.ensures.same ∙ before.same;
+      runs = c.end_one.ensures.runs ∙ before.runs;
+      found = c.end_one.ensures.found ∙ before.found;
+      counts = λ disks. c.end_one.ensures.counts _ disks (before.counts disks);
+    }
+
+pub returns-in-None-clause-counts : goal.returns-in-None-clause-counts
+returns-in-None-clause-counts g c = λ disks.
+    subst (λ (o : Option RunFault). CountsBy o false (record { children = child_counts g.P.Procs c.args.procs.now; disks = disks }) (record { children = child_counts g.P.Procs c.loop-at.procs; disks = disks }))
+    c.in-None.is (c.loop-at.invariant.counts disks)
+
+pub returns-clause-counts : goal.returns-clause-counts
+returns-clause-counts g c = λ disks.
+    subst (λ (o : Option RunFault). CountsBy o false (record { children = child_counts g.P.Procs c.args.procs.now; disks = disks }) (record { children = child_counts g.P.Procs c.loop-at.procs; disks = disks }))
+    c.in-Some.is (c.loop-at.invariant.counts disks)
 
 pub returns-in-None-clause-ran : goal.returns-in-None-clause-ran
 returns-in-None-clause-ran g c =

@@ -1,10 +1,10 @@
 -- What holds at each turn of the loop of `run_tests`: the runs are under way.
-use Rattle.std.proofs.Common.{◌≡◌, length}
+use Rattle.std.proofs.Common.{◌≡◌, ℕ, false, length}
 use Rattle.std.specs.Prelude.{is_some}
 use Rattle.outside.specs.FaultCounts.{child_counts}
 use Rattle.test_row.specs.Rows.{tickets_of, run_count, to_come}
 use Rattle.test_loop.specs.Requests.{lent_files}
-use Rattle.test_loop.specs.Faults.{TestsCountBy}
+use Rattle.run_steps.specs.Faults.{CountsBy}
 use Rattle.test_loop.specs.UnderWay.{Goes, tests_with}
 use Rattle.test_loop.proofs.runs.run_tests.Given as goal
 
@@ -16,9 +16,9 @@ invariant-loop-at g l = record {
   same : g.P.Procs.answer l.procs ≡ g.P.Procs.answer l.fn.procs;
   runs : run_count l.row ≡ length l.runs;
   found : length l.found.items ≡ length l.runs;
-  counts : TestsCountBy l.noted
-      (child_counts g.P.Procs l.fn.procs)
-      (child_counts g.P.Procs l.procs);
+  counts : (disks : ℕ) → CountsBy l.noted false
+      (record { children = child_counts g.P.Procs l.fn.procs; disks = disks })
+      (record { children = child_counts g.P.Procs l.procs; disks = disks });
 }
 
 abbrev pub decreases-loop-at : goal.decreases-loop-at

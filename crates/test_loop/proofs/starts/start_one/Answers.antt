@@ -8,16 +8,12 @@ use Rattle.base.specs.declared.child.Event.{Event}
 use Rattle.base.specs.declared.child.Event.TheVariants.{Started}
 use Rattle.base.specs.declared.child.Request.{Request}
 use Rattle.base.specs.declared.graph.BuiltFile.{BuiltFile}
-use Rattle.outside.specs.FaultCounts.{child_counts}
 use Rattle.test_spec.specs.declared.runs.TestRun.{TestRun}
 use Rattle.test_spec.specs.Runs.{FitsRun}
 use Rattle.test_spec.specs.BenchJobs.{bench_request}
 use Rattle.test_journal.specs.TestJournal.{TestSetting}
 use Rattle.test_loop.specs.Requests.{lent_files}
-use Rattle.test_loop.specs.declared.faults.TestRunFault.{TestRunFault}
-use Rattle.test_loop.specs.Faults.{TestsCountBy, noted_with}
 use Rattle.test_loop.specs.UnderWay.{tests_with}
-use Rattle.test_loop.proofs.Counting.{counts_halted}
 use Rattle.test_loop.proofs.TestsThen.{started_then, halted_then}
 use Rattle.test_loop.proofs.FreshTickets.{fresh_started}
 use Rattle.test_loop.proofs.Answering.{answers_started}
@@ -52,16 +48,3 @@ returns-in-Err-clause-goes g c = λ answer same slots fail_fast old found goes.
       fresh = goes.fresh;
       answers = goes.answers;
     }
-
-pub returns-in-Ok-clause-counts : goal.returns-in-Ok-clause-counts
-returns-in-Ok-clause-counts g c = λ first is.
-    subst (λ (n : ℕ). TestsCountBy c.args.noted.now first (record { starts = n; losses = g.P.Procs.lost_children c.try_start.new.procs })) (sym c.in-Ok.ensures.starts)
-    (subst (λ (n : ℕ). TestsCountBy c.args.noted.now first (record { starts = g.P.Procs.failed_starts c.args.procs.now; losses = n })) (sym c.try_start.ensures.losses) is)
-
-pub returns-in-Err-clause-counts : goal.returns-in-Err-clause-counts
-returns-in-Err-clause-counts g c = λ first is.
-    subst (λ (o : Option TestRunFault). TestsCountBy o first (child_counts g.P.Procs c.try_start.new.procs))
-    (sym (c.halt.ensures.noted ∙ ap (λ (o : Option TestRunFault). Some (noted_with o c.in-Err.fault)) c.requires.unnoted))
-    (counts_halted c.in-Err.fault first (g.P.Procs.failed_starts c.args.procs.now) (g.P.Procs.failed_starts c.try_start.new.procs) (g.P.Procs.lost_children c.args.procs.now) (g.P.Procs.lost_children c.try_start.new.procs)
-    c.in-Err.ensures.starts c.try_start.ensures.losses
-    (subst (λ (o : Option TestRunFault). TestsCountBy o first (child_counts g.P.Procs c.args.procs.now)) c.requires.unnoted is))

@@ -4,7 +4,7 @@ use Rattle.base.specs.declared.graph.Entry.{Entry}
 use Rattle.store_holdings.specs.Additions.{no_entry}
 use Rattle.store_requests.proofs.records.RequestStoreRecords.commit.Goals as goal
 
-pub returns-clause-seats : goal.returns-clause-seats
-returns-clause-seats g c = λ graph entry is seated found named.
-    c.commit.ensures.seats graph is seated
+pub returns-clause-over : goal.returns-clause-over
+returns-clause-over g c = λ graph entry is over found named.
+    c.commit.ensures.over graph is over
     (record { at_is = refl; named = ap (λ (e : Entry). e.name) (get_or_from_slice_get graph c.args.prepared.addition.at entry no_entry found) ∙ named })

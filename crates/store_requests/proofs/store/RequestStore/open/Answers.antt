@@ -1,7 +1,10 @@
-use Rattle.std.proofs.Common.{rules, List, ap, subst, sym, ◌∙◌}
-use Rattle.outside.specs.Disks.{Goes, reads_of}
+use Rattle.std.proofs.Common.{◌≡◌, rules, List, ap, subst, sym, ◌∙◌}
+use Rattle.base.specs.declared.graph.Entry.{Entry}
+use Rattle.outside.specs.Disks.{Goes, reads_of, settled_disk}
 use Rattle.outside.specs.Records.{Record as RequestRecord}
+use Rattle.store_holdings.specs.Held.{AreLentBy}
 use Rattle.store_requests.specs.Stored.{AreAllOrLatest, HasCarriedOver, kept_payloads, own_requests, requests_in, store_of}
+use Rattle.store_requests.proofs.OnAny.{on_ok_any, still_in_step, still_lent}
 use Rattle.store_requests.proofs.RequestMoments.{all_moments, own_all, reads_image, then_leaves, then_opens}
 use Rattle.store_requests.proofs.store.RequestStore.open.Goals as goal
 
@@ -41,19 +44,22 @@ returns-in-Ok-clause-records g c = λ told.
     let new = (g.D.Disk.moments c.compact_where_asked.new.disk).now in
     let before = own_all (store_of c.in_ok-journal.field-0.journal c.in_ok-journal.field-0.held) middle (c.in_ok-journal.ensures.in_step told) in
     let after = own_all (store_of c.compact_where_asked.new.journal c.compact_where_asked.new.held) new (c.in-Ok.ensures.in_step told) in
-    subst (λ (rs : List RequestRecord). AreAllOrLatest rs (requests_in (reads_of (g.D.Disk.moments c.compact_where_asked.new.disk).now))) (sym before ∙ c.in_ok-journal.ensures.records told)
-    (subst (λ (rs : List RequestRecord). AreAllOrLatest (own_requests (reads_of (g.D.Disk.moments c.read.new.disk).now)) rs) (sym after) (c.in-Ok.ensures.records told))
+    on_ok_any c.looked_up.result
+    (subst (λ (rs : List RequestRecord). AreAllOrLatest rs (requests_in (reads_of (g.D.Disk.moments c.compact_where_asked.new.disk).now))) (sym before ∙ c.in_ok-journal.ensures.records told)
+    (subst (λ (rs : List RequestRecord). AreAllOrLatest (own_requests (reads_of (g.D.Disk.moments c.read.new.disk).now)) rs) (sym after) (c.in-Ok.ensures.records told)))
 
 pub returns-in-Ok-clause-compacts : goal.returns-in-Ok-clause-compacts
 returns-in-Ok-clause-compacts g c = λ told asks.
     let middle = (g.D.Disk.moments c.read.new.disk).now in
     let before = own_all (store_of c.in_ok-journal.field-0.journal c.in_ok-journal.field-0.held) middle (c.in_ok-journal.ensures.in_step told) in
-    subst (λ (rs : List RequestRecord). HasCarriedOver rs (reads_of (g.D.Disk.moments c.compact_where_asked.new.disk).now)) (sym before ∙ c.in_ok-journal.ensures.records told)
-    (c.in-Ok.ensures.compacts told ((c.in_ok-journal.ensures.asks told).1 asks))
+    on_ok_any c.looked_up.result
+    (subst (λ (rs : List RequestRecord). HasCarriedOver rs (reads_of (g.D.Disk.moments c.compact_where_asked.new.disk).now)) (sym before ∙ c.in_ok-journal.ensures.records told)
+    (c.in-Ok.ensures.compacts told ((c.in_ok-journal.ensures.asks told).1 asks)))
 
 pub returns-in-Ok-clause-keeps : goal.returns-in-Ok-clause-keeps
 returns-in-Ok-clause-keeps g c = λ told unasked.
-    ap (λ disk. kept_payloads (reads_of (g.D.Disk.moments disk).now)) (c.compact_where_asked.ensures.keeps told (λ asks. unasked ((c.in_ok-journal.ensures.asks told).0 asks))) ∙ c.in_ok-journal.ensures.keeps told
+    on_ok_any c.looked_up.result
+    (ap (λ disk. kept_payloads (reads_of (g.D.Disk.moments disk).now)) (c.compact_where_asked.ensures.keeps told (λ asks. unasked ((c.in_ok-journal.ensures.asks told).0 asks))) ∙ c.in_ok-journal.ensures.keeps told)
 
 pub compact_where_asked-requires-clause-in_step : goal.compact_where_asked-requires-clause-in_step
 compact_where_asked-requires-clause-in_step g c = λ told. c.in_ok-journal.ensures.in_step told
@@ -64,5 +70,24 @@ returns-clause-rests g c = λ told resting.
     let same = c.compact_where_asked.ensures.keeps told (λ asks. resting.unasked ((c.in_ok-journal.ensures.asks told).0 asks)) in
     record { goes = subst (λ disk. Goes (g.D.Disk.moments c.args.disk.now).now (g.D.Disk.moments c.args.disk.now) (g.D.Disk.moments disk)) (sym same) rests.goes; same = search rules }
 
+pub looked_up-requires-clause-lent : goal.looked_up-requires-clause-lent
+looked_up-requires-clause-lent g c = c.in-Ok.ensures.lent c.args.graph.now (subst (λ (files : List Entry). AreLentBy files c.in_ok-journal.field-0.held.lent) c.as_slice.ensures.entries c.in_ok-journal.ensures.lent)
+
+pub returns-in-Ok-clause-rests : goal.returns-in-Ok-clause-rests
+returns-in-Ok-clause-rests g c = λ told resting.
+    let rests = c.in_ok-journal.ensures.rests told resting.healthy in
+    let same = c.compact_where_asked.ensures.keeps told (λ asks. resting.unasked ((c.in_ok-journal.ensures.asks told).0 asks)) in
+    record {
+      goes = subst (λ disk. Goes (g.D.Disk.moments c.args.disk.now).now (g.D.Disk.moments c.args.disk.now) (g.D.Disk.moments disk)) (sym same) rests.goes;
+      same = on_ok_any c.looked_up.result (subst (λ disk. (g.D.Disk.moments disk).now ≡ settled_disk (reads_of (g.D.Disk.moments c.args.disk.now).now)) (sym same) rests.same);
+    }
+
+pub returns-in-Ok-clause-in_step : goal.returns-in-Ok-clause-in_step
+returns-in-Ok-clause-in_step g c = λ told. still_in_step c.looked_up.result _ _ _ c.looked_up.ensures.journal c.looked_up.ensures.held (c.in-Ok.ensures.in_step told)
+
+pub returns-in-Ok-clause-settled : goal.returns-in-Ok-clause-settled
+returns-in-Ok-clause-settled g c = λ told. on_ok_any c.looked_up.result (c.in-Ok.ensures.settled told)
+
 pub returns-in-Ok-clause-lent : goal.returns-in-Ok-clause-lent
-returns-in-Ok-clause-lent g c = c.in-Ok.ensures.lent c.args.files.now c.in_ok-journal.ensures.lent
+returns-in-Ok-clause-lent g c = still_lent c.looked_up.result _ c.args.graph.now c.looked_up.ensures.held
+    (c.in-Ok.ensures.lent c.args.graph.now (subst (λ (files : List Entry). AreLentBy files c.in_ok-journal.field-0.held.lent) c.as_slice.ensures.entries c.in_ok-journal.ensures.lent))
