@@ -9,9 +9,12 @@ needs python3
 exec python3 - "$@" <<'END'
 import pathlib, re, sys
 
-LEFT = 251  # of all pages that aren't plain yet; lower it as pages become plain
+LEFT = 29  # of all pages that aren't plain yet; lower it as pages become plain
 LONG = 35
-PLAIN = ("README.md", "docs/user/MANUAL.md", "docs/user/MOVING.md")
+PLAIN = ("README.md", "CHANGES.md", "docs/ASSUMPTIONS.md", "docs/DECISIONS.md", "docs/FORMATS.md", "docs/MEASURE.md", "docs/NOTES.md",
+         "docs/proof/HEADLINE.md", "docs/proof/PROMISES.md", "docs/proof/PROVING.md", "docs/user/CACHE.md", "docs/user/CI.md",
+         "docs/user/CLUSTER.md", "docs/user/COMPILERS.md", "docs/user/EDITORS.md", "docs/user/GHDL.md", "docs/user/MANUAL.md",
+         "docs/user/MOVING.md", "docs/user/VHDL.md")
 MADE = ("docs/proof/DEFINITIONS.md", "docs/proof/CALLS.md")  # by tests/support/proof_pages.py
 PHRASES = re.compile(r"\b(?:" + "|".join((
     # statuses without their noun: say "out of date", "up to date", "unchanged"
