@@ -15,11 +15,20 @@ wait_for_others() {
     [ -z "$seconds" ] || wait_for_run
 }
 
-# Sets rest to the seconds that are left.
+# Sets now to the hundredths of a second that this machine is up.
+find_now() {
+    read -r now idle </proc/uptime
+    # (a shell takes 08 for a bad number)
+    now=$((${now%.*} * 100 + 1${now#*.} - 100))
+}
+
+# Sets rest to the seconds that are left, with two decimals.
 find_rest() {
-    [ -n "$end" ] || end=$(($(date +%s) + seconds))
-    rest=$((end - $(date +%s)))
+    find_now
+    [ -n "$end" ] || end=$((now + seconds * 100))
+    rest=$((end - now))
     [ "$rest" -gt 0 ] || rest=0
+    rest=$((rest / 100)).$((rest / 10 % 10))$((rest % 10))
 }
 
 # Waits until wrappers/vunit_watch has no run in the present folder. It locks vunit_out/watch for each of its runs. Other starts share
@@ -29,8 +38,10 @@ wait_for_watch() {
     [ -z "${VUNIT_RUN_WATCHED-}" ] && opens_store "$@" && [ -f vunit_out/watch ] && [ -r vunit_out/watch ] || return 0
     command -v flock >/dev/null || { echo "vunit_run: the command flock is missing, so no run of vunit_watch is waited for" >&2; return 0; }
     { command exec 7<vunit_out/watch; } 2>/dev/null || return 0
+    # (at most one second before it is said)
     if [ -n "$seconds" ]; then find_rest; else rest=1; fi
-    flock -s -w "$((rest > 0))" 7 2>/dev/null
+    case $rest in 0.*) ;; *) rest=1 ;; esac
+    flock -s -w "$rest" 7 2>/dev/null
     # (another status is of a file system without locks)
     [ $? -eq 1 ] || return 0
     echo "vunit_run: waiting for a run of vunit_watch in this folder${seconds:+, at most $seconds seconds}" >&2
