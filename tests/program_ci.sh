@@ -172,4 +172,19 @@ for version, generator, told in ("9.9.9", "llvm", True), ("2.0.0", "mcode", Fals
     wanted = f"vunit_ci: GHDL {version} {generator} wasn't tried with these wrappers: tests/try_ghdl tries it\n".encode() if told else b""
     if (ran.returncode, ran.stdout, ran.stderr) != (0, PASSED, wanted):
         fail(f"GHDL {version}", f"it is {ran}")
+
+# An interrupt before the program is started ends both at once, and nothing is said of the wrapper.
+write("other", {"ghdl": "#!/bin/sh\n: >asked\nexec sleep 60\n"})
+os.chmod("other/ghdl", 0o755)
+project("project", {"vunit.toml": TOOLS + ONE, "t.vhd": BENCH})
+environment = dict(os.environ, PATH=os.path.abspath("other") + ":" + os.environ["PATH"])
+ran = subprocess.Popen([CI, "--compile"], cwd="project", env=environment, stdin=subprocess.DEVNULL, stdout=subprocess.PIPE,
+                       stderr=subprocess.PIPE, start_new_session=True)
+until = time.monotonic() + 60
+while not os.path.exists("project/asked") and time.monotonic() < until:
+    time.sleep(0.05)
+os.killpg(ran.pid, signal.SIGINT)
+out, error = ran.communicate(timeout=60)
+if (ran.returncode, out, error) != (-signal.SIGINT, b"", b""):
+    fail("an interrupt before the start", f"it is {(ran.returncode, out, error)}")
 end()
