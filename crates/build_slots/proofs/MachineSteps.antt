@@ -20,7 +20,8 @@ use Rattle.run_steps.proofs.PlainSteps.{step_starts, step_waits, step_ends, no_r
 use Rattle.build_slots.specs.declared.slots.Slots.{Slots}
 use Rattle.build_slots.specs.declared.step.BuildStep.TheVariants.{Run}
 use Rattle.build_slots.specs.Machines.{is_checked, is_noted, is_stopped_in, files_of, check_of, candidate_of, next_of, to_come, count_in, IsMachineOf}
-use Rattle.build_slots.proofs.Passing.{by_all_below, list_all_more, list_all_same, first_same, none_passes, set_test}
+use Rattle.build_slots.proofs.Passing.{list_all_more, list_all_same, first_same, none_passes, set_test}
+use Rattle.run_spec.proofs.FoldLaws.{by_all_below}
 use Rattle.build_slots.proofs.NextSteps.{IsCheck, IsStart, run_parts, end_runs}
 
 -- what a file depends on are files

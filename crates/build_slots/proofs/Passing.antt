@@ -12,14 +12,6 @@ use Rattle.base_position_set.specs.Positions.{IsNext}
 use Rattle.run_spec.specs.Moves.{first_from}
 use Rattle.run_spec.proofs.Places.{first_found, first_none}
 
--- what holds of a number where it holds of all below it
-pub by_all_below : (P : ℕ → Type 0) → ((k : ℕ) → ((d : ℕ) → d < k → P d) → P k) → (k : ℕ) → P k
-by_all_below P step k = step k (below_it k)
-  where
-    below_it : (n d : ℕ) → d < n → P d
-    below_it zero d lt = absurd (omega arith)
-    below_it (suc n) d lt = step d (λ e l. below_it n e (omega arith))
-
 -- all pass a test that passes whatever another does
 pub list_all_more : (p q : ℕ → Bool) (n : ℕ) → ((k : ℕ) → k < n → p k ≡ true → q k ≡ true) → (xs : List ℕ) → All (λ x. x < n) xs → list_all p xs ≡ true → list_all q xs ≡ true
 list_all_more p q n more [] below all = refl

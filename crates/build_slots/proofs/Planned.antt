@@ -14,14 +14,6 @@ use Rattle.build_slots.specs.declared.plans.Need.{Need}
 use Rattle.build_slots.specs.declared.plans.Need.TheVariants.{Fresh, Stale, Later}
 use Rattle.build_slots.specs.Plans.{is_fresh, is_later, need_at, ArePlannedTo}
 
-pub deps_before : (graph : List Entry) → IsGraph graph → (position : ℕ) → All (λ dep. dep < position) (deps_at graph position)
-deps_before graph is position = elim ((slice_get_cases graph position).1) [
-  | inl found ↦
-      let entry : IsEntryAt graph position found.0 = subst (IsEntryAt graph position) found.3 (is.each position found.0 found.1) in
-      subst (All (λ dep. dep < position)) (sym (ap (λ (o : Option Entry). option_map_or (λ (e : Entry). e.deps) o []) found.2)) entry.before
-  | inr none ↦ subst (All (λ dep. dep < position)) (sym (ap (λ (o : Option Entry). option_map_or (λ (e : Entry). e.deps) o []) none.1)) (λ k d lt. absurd (omega (arith, lt)))
-]
-
 list_all_same : (p q : ℕ → Bool) (n : ℕ) → ((k : ℕ) → k < n → p k ≡ q k) → (xs : List ℕ) → All (λ x. x < n) xs → list_all p xs ≡ list_all q xs
 list_all_same p q n same [] below = refl
 list_all_same p q n same (x ∷ xs) below = ap₂ (λ (a b : Bool). a && b) (same x (below 0 x (omega arith))) (list_all_same p q n same xs (λ k d lt. below (suc k) d (omega arith)))

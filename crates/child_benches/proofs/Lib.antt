@@ -1,5 +1,4 @@
 -- The lemmas.
-pub mod NameSets
 pub mod Said
 pub mod Failing
 pub mod Cases

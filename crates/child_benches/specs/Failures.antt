@@ -8,10 +8,6 @@ use Rattle.child_benches.specs.Benches.{fails, full_name}
 abbrev pub full_names : BenchJob → List (List ℕ)
 full_names job = map (full_name job) (codes "all" ∷ job.cases)
 
--- a set has just these names
-abbrev pub HasAll : List (List ℕ) → List (List ℕ) → Type 0
-HasAll set names = (name : List ℕ) → has_case set name ≡ has_case names name
-
 -- of the names that are wanted, those that pass a test were added to a set
 abbrev pub Takes : List (List ℕ) → (List ℕ → Bool) → List (List ℕ) → List (List ℕ) → Type 0
 Takes wanted test old new = (name : List ℕ) → has_case new name ≡ (has_case old name || (has_case wanted name && test name))

@@ -9,12 +9,11 @@ ghost use Rattle.child_benches.specs.Failures.{KnowsFailures};
 
 use crate::ends::{all_done, failed_case, no_bench, put_start};
 use crate::failures::{failures_of, full_name};
-use crate::names::Names;
 use base::{BuiltFile, Exit, NoMemory};
 use child_bench_codec::{laws_of_bench_jobs, read_bench_request};
 use child_lines::{after_word, bad_request, next_line};
 use std::alloc::Global;
-use test_spec::BenchJob;
+use test_spec::{BenchJob, Names};
 
 /// Whether a line is of the entity of a name.
 fn is_entity_line(name: &[u8], line: &[u8]) -> bool

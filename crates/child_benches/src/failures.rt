@@ -4,13 +4,12 @@ ghost use Rattle.std.specs.Prelude.{◌≡◌, ◌++◌, ◌∷◌, [], IfOk, On
 ghost use Rattle.std.specs.List.{list_any};
 ghost use Rattle.child_lines.specs.Lines.{lines};
 ghost use Rattle.child_benches.specs.Benches.{fails, full_name, is_failure};
-ghost use Rattle.child_benches.specs.Failures.{HasAll, KnowsFailures, Takes, full_names};
+ghost use Rattle.child_benches.specs.Failures.{KnowsFailures, Takes, full_names};
 
-use crate::names::Names;
 use base::{BuiltFile, NoMemory, Text, TextList};
 use child_lines::{after_word, next_line, put};
 use std::alloc::Global;
-use test_spec::BenchJob;
+use test_spec::{BenchJob, Names, set_of};
 
 /// The full name of a case of a bench.
 #[tactic(auto, unfolding(crate::specs::Benches::full_name))]
@@ -47,17 +46,6 @@ fn full_names(alloc: Global, job: &BenchJob) -> Result<TextList, NoMemory>
         push_full(alloc, job, name.bytes(), &mut names)?;
     }
     Ok(names)
-}
-
-/// Names as a set.
-fn set_of<'a>(alloc: Global, names: &'a TextList) -> Result<Names<'a>, NoMemory>
-    ensures { IfOk result (λ set. HasAll set names.now) }
-{
-    let mut set = Names::new(alloc);
-    for name in names.as_slice() {
-        set.add(name.bytes())?;
-    }
-    Ok(set)
 }
 
 /// Adds the case that a line says fails, where it is wanted.

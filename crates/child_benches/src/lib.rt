@@ -4,6 +4,5 @@
 mod benches;
 mod ends;
 mod failures;
-mod names;
 
 pub use benches::{bench, bench_job, run_job};

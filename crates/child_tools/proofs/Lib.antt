@@ -1,5 +1,4 @@
 -- The lemmas of this crate.
-pub mod Comments
 pub mod ScriptLemmas
 pub mod MarkLemmas
 pub mod MissingLemmas

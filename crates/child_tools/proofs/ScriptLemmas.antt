@@ -5,7 +5,7 @@ use Rattle.std.specs.List.{cons_option, filter_map}
 use Rattle.std.specs.Option.{option_or}
 use Rattle.std.proofs.lemmas.List.{drop_all, drop_more}
 use Rattle.base.specs.declared.lexical.Span.{Span}
-use Rattle.child_tools.proofs.Comments.{comment_at}
+use Rattle.vhdl_spec.proofs.Comments.{comment_at}
 use Rattle.child_tools.specs.Scripts.{first_refusal, refusal_at}
 
 -- ## The first refusal

@@ -10,19 +10,11 @@ use Rattle.std.proofs.lemmas.List.Kept.{IsStrictlyIncreasing-filter}
 use Rattle.base.specs.declared.limits.TheConstants.{FILE_LIMIT}
 use Rattle.base.specs.PresentGraph.{below}
 use Rattle.base.proofs.Below.{get_or-below, length-below}
+use Rattle.order_spec.proofs.Finds.{below_all, below_rises}
 use Rattle.order_spec.proofs.Cycles.{cyclic_is}
 use Rattle.order_spec.specs.BuildOrder.{AreEdges, FileOrder, Ordered, Cyclic, IsCycle, deps_in, file_order}
 use Rattle.generated_links.specs.NumberedFiles.{numbered_edges, uses_at, uses_number}
 use Rattle.generated_links.proofs.Edges.{no_self}
-
-below_rises : (n : ℕ) → IsStrictlyIncreasing (below n)
-below_rises n k lt =
-    let a : k < n = omega (arith, length-below n) in
-    let b : k + 1 < n = omega (arith, length-below n) in
-    rw (get_or-below n k 0 a, get_or-below n (k + 1) 0 b) (omega arith)
-
-below_all : (n : ℕ) → All (λ k. k < n) (below n)
-below_all n k d lt = let a : k < n = omega (arith, length-below n) in rw (get_or-below n k d a) a
 
 -- ## Edges
 

@@ -120,7 +120,17 @@ impl GeneratedTree {
 }
 
 impl Tree for GeneratedTree {
+    ghost use Rattle.std.specs.Prelude.{List};
+    ghost use Rattle.base.specs.declared.file.NamedText.{NamedText};
+    ghost use Rattle.memory_outside.specs.Trees.{hold_same};
+
     ghost tells = { Unit {0} };
+
+    ghost Kept = { List NamedText };
+
+    ghost kept = { λ t. t.files };
+
+    ghost holds = { λ a b same. hold_same same };
 
     ghost file = { λ t. file_at t.files };
 
@@ -158,5 +168,13 @@ impl Tree for GeneratedTree {
             Ok(None) => self.walk(alloc, path, limit),
             Err(_) => Err(TreeFault::NoMemory),
         }
+    }
+
+    fn forget(&mut self, alloc: Global)
+        ensures same { self.new.files ≡ self.old.files }
+        ensures asked { self.new.asked ≡ [] }
+        ensures failed { self.new.failed ≡ self.old.failed }
+    {
+        self.asked = TextList::new(alloc);
     }
 }

@@ -56,6 +56,12 @@ SourceFails (Ok value) calls = fails_next calls ≡ false
 SourceFails (Err source.NoMemory) calls = ⊥
 SourceFails (Err source.Failed) calls = fails_next calls ≡ true
 
+-- A line that is listed fails to be taken, and any other finds no fault but out of memory.
+abbrev pub LineFails : {T : Type 0} → Result T SourceFault → Calls → Type 0
+LineFails (Ok value) calls = fails_next calls ≡ false
+LineFails (Err source.NoMemory) calls = fails_next calls ≡ false
+LineFails (Err source.Failed) calls = fails_next calls ≡ true
+
 -- A put that is listed fails, and any other fails only where the bytes have no room, for lack of memory.
 abbrev pub SinkFails : {T : Type 0} → Result T SinkFault → Calls → (room wanted : ℕ) → Type 0
 SinkFails (Ok value) calls room wanted = fails_next calls ≡ false

@@ -1,12 +1,13 @@
 -- What a tree over memory holds: files, of which the first of a path counts.
-use Rattle.std.specs.Prelude.{ℕ, ◌≤◌, nat_eq, List, [], ◌∷◌, length, map, filter, Option, Some, None, if◌then◌else◌}
+use Rattle.std.specs.Prelude.{◌≡◌, ℕ, ◌≤◌, nat_eq, List, [], ◌∷◌, length, map, filter, Option, Some, None, if◌then◌else◌}
 use Rattle.std.specs.List.{AllByRecursion}
 use Rattle.std.specs.Ordering.{nat_cmp}
 use Rattle.std.specs.Cmp.Lexicographic.{pointwise, slice_cmp}
 use Rattle.std.specs.BTreeSet.{insert_key}
 use Rattle.std.specs.Str.{IsUtf8}
+use Rattle.std.proofs.Common.{ap}
 use Rattle.base.specs.declared.file.NamedText.{NamedText}
-use Rattle.outside.specs.Trees.{is_listed}
+use Rattle.outside.specs.Trees.{is_listed, HoldsSame}
 use Rattle.memory_outside.specs.declared.failing.Calls.{Calls}
 
 -- a tree: its files, the paths that it was asked for, and its calls
@@ -41,3 +42,7 @@ rising_paths (path ∷ rest) = insert_key (slice_cmp nat_cmp) (rising_paths rest
 -- the paths that a tree of these files lists, in rising order
 abbrev pub listed_of : List NamedText → List (List ℕ)
 listed_of files = rising_paths (filter is_listed (paths_of files))
+
+-- trees of the same files hold and list the same
+pub hold_same : {files others : List NamedText} → files ≡ others → HoldsSame (file_at files) (file_at others) (listed_of files) (listed_of others)
+hold_same same = record { files = ap file_at same; lists = ap listed_of same }

@@ -231,4 +231,8 @@ impl Disk for MemDisk {
             done,
         })
     }
+
+    fn rest(&mut self)
+        ensures { self.new ≡ self.old }
+    {}
 }

@@ -59,7 +59,17 @@ impl MemTree {
 }
 
 impl Tree for MemTree {
+    ghost use Rattle.std.specs.Prelude.{List};
+    ghost use Rattle.base.specs.declared.file.NamedText.{NamedText};
+    ghost use Rattle.memory_outside.specs.Trees.{hold_same};
+
     ghost tells = { Unit {0} };
+
+    ghost Kept = { List NamedText };
+
+    ghost kept = { λ t. t.files };
+
+    ghost holds = { λ a b same. hold_same same };
 
     ghost file = { λ t. file_at t.files };
 
@@ -113,5 +123,13 @@ impl Tree for MemTree {
             Ok(end) => Ok(end),
             Err(_) => Err(TreeFault::NoMemory),
         }
+    }
+
+    fn forget(&mut self, alloc: Global)
+        ensures same { self.new.files ≡ self.old.files }
+        ensures asked { self.new.asked ≡ [] }
+        ensures calls { self.new.calls ≡ self.old.calls }
+    {
+        self.asked = TextList::new(alloc);
     }
 }

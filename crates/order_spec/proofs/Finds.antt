@@ -1,9 +1,11 @@
--- The first element that passes a test, and the first number below another that does.
-use Rattle.std.proofs.Common.{◌≡◌, ℕ, zero, suc, ◌<◌, Bool, true, false, not, ◌&&◌, Option, Some, None, List, [], ◌∷◌, length, get_or, refl, sym, ap, ◌∙◌, arith, inl, inr}
-use Rattle.std.specs.Prelude.{Contains}
+-- The first element that passes a test, and the first number below another that does. The numbers below one rise.
+use Rattle.std.proofs.Common.{◌≡◌, ℕ, zero, suc, ◌+◌, ◌<◌, Bool, true, false, cond, not, ◌&&◌, Option, Some, None, List, [], ◌∷◌, ◌++◌, length, get_or, refl, sym, ap, ◌∙◌, arith, inl, inr}
+use Rattle.std.specs.Prelude.{All, Contains, filter}
 use Rattle.std.specs.List.{find, list_all}
+use Rattle.std.specs.List.Sorted.{IsStrictlyIncreasing}
 use Rattle.std.specs.Option.{option_or}
 use Rattle.std.proofs.lemmas.Bool.{cases_Bool, cases_lt, cond-true, cond-false}
+use Rattle.std.proofs.lemmas.List.Elements.{filter-append}
 use Rattle.std.proofs.lemmas.List.Folds.{find-append}
 use Rattle.base.specs.PresentGraph.{below}
 use Rattle.base.proofs.Below.{length-below, get_or-below}
@@ -100,3 +102,21 @@ find_first p (suc n) first low lt at =
           find-append p (below n) (n ∷ []) ∙ ap (λ (o : Option ℕ). option_or o (find p (n ∷ []))) (find_none p n (λ k lt. low k (omega arith)))
           ∙ cond-true (p n) (Some n) None (ap p e ∙ at) ∙ ap (λ (k : ℕ). Some k) e
     ]
+
+-- ## The numbers below one
+
+pub below_rises : (n : ℕ) → IsStrictlyIncreasing (below n)
+below_rises n k lt =
+    let a : k < n = omega (arith, length-below n) in
+    let b : k + 1 < n = omega (arith, length-below n) in
+    rw (get_or-below n k 0 a, get_or-below n (k + 1) 0 b) (omega arith)
+
+pub below_all : (n : ℕ) → All (λ k. k < n) (below n)
+below_all n k d lt = let a : k < n = omega (arith, length-below n) in rw (get_or-below n k d a) a
+
+pub filter_below : (p q : ℕ → Bool) (n : ℕ) → ((k : ℕ) → k < n → p k ≡ q k) → filter p (below n) ≡ filter q (below n)
+unfolding below
+filter_below p q zero same = refl
+filter_below p q (suc n) same =
+    filter-append p (below n) (n ∷ []) ∙ ap (λ (xs : List ℕ). xs ++ filter p (n ∷ [])) (filter_below p q n (λ k lt. same k (omega arith)))
+    ∙ ap (λ (b : Bool). filter q (below n) ++ cond b (n ∷ []) []) (same n (omega arith)) ∙ sym (filter-append q (below n) (n ∷ []))

@@ -4,3 +4,5 @@ pub mod ImageLaws
 pub mod CommitLaws
 pub mod PhaseLaws
 pub mod FaultCountLaws
+pub mod LineLengths
+pub mod LineRows

@@ -46,6 +46,11 @@ pub record IsListOf (file : List ℕ → Option (List ℕ)) (paths : List (List 
   pub rising : IsRising paths
   pub each : (path : List ℕ) → Contains paths path ↔ Lists file path
 
+-- two trees hold the same files, and list the same paths
+pub record HoldsSame (file other : List ℕ → Option (List ℕ)) (paths others : List (List ℕ)) : Type 0 where
+  pub files : file ≡ other
+  pub lists : paths ≡ others
+
 -- the answer to a question for names: all paths of the list, or that they are more than the limit
 abbrev pub names_end : List (List ℕ) → ℕ → NamesEnd
 names_end paths limit = if nat_le (length paths) limit then names.Got paths else names.TooMany

@@ -83,6 +83,11 @@ pub trait Disk {
         ensures cause { DiskCounts result (failed_disk_calls self.old)
             (failed_disk_calls self.new) };
 
+    /// Lets go of files and locks until the next call, so that meanwhile another object may use them. It changes no byte.
+    fn rest(&mut self)
+        ensures moments { moments self.new ≡ moments self.old }
+        ensures no_fault { failed_disk_calls self.new ≡ failed_disk_calls self.old };
+
     /// At each moment so far, what reads gave is an image, and each side is shorter than 2^63 bytes.
     ghost sound: { (disk : Self) → AreSound (moments disk) };
 }

@@ -1,7 +1,7 @@
 //! An input that is taken and an output that is put.
 ghost use Rattle.std.specs.Prelude.{◌≡◌, ℕ, List, [], IfOk, OnOk};
 ghost use Rattle.outside.specs.Counts.{SourceCounts, SinkCounts};
-ghost use Rattle.outside.specs.Streams.{take_end, IsTaken, Puts};
+ghost use Rattle.outside.specs.Streams.{take_end, IsTaken, line_end, after_line, FitsLine, Puts};
 
 use base::Text;
 use std::alloc::Global;
@@ -10,6 +10,15 @@ use std::alloc::Global;
 #[derive(Drop)]
 pub enum TakeEnd {
     Got(Text),
+    TooLong,
+}
+
+/// A line of the input without its line feed, that the input has ended, or that the line has more bytes than were asked
+/// for.
+#[derive(Drop)]
+pub enum LineEnd {
+    Got(Text),
+    End,
     TooLong,
 }
 
@@ -26,7 +35,7 @@ pub enum SinkFault {
     Failed,
 }
 
-/// An input that is read to its end.
+/// An input that is read by lines, or to its end.
 pub trait Source {
     /// Whether the source tells what it holds.
     ghost tells: { Type 0 };
@@ -37,7 +46,15 @@ pub trait Source {
     /// How often the source has failed.
     ghost failed_takes: { Self → ℕ };
 
-    /// The input to its end, where it has at most `limit` bytes.
+    /// The next line, where it has at most `limit` bytes. A last line without a line feed counts, and every other byte
+    /// is part of its line. After `TooLong` the whole line is taken.
+    fn take_line(&mut self, alloc: Global, limit: u64) -> Result<LineEnd, SourceFault>
+        ensures size { IfOk result (FitsLine limit) }
+        ensures line { tells → IfOk result (λ end. end ≡ line_end (left self.old) limit) }
+        ensures left { tells → OnOk result (left self.new ≡ after_line (left self.old)) }
+        ensures cause { SourceCounts result (failed_takes self.old) (failed_takes self.new) };
+
+    /// What remains of the input to its end, where that has at most `limit` bytes.
     fn take(&mut self, alloc: Global, limit: u64) -> Result<TakeEnd, SourceFault>
         ensures size { IfOk result (IsTaken limit) }
         ensures input { tells → IfOk result (λ end. end ≡ take_end (left self.old) limit) }

@@ -1,7 +1,7 @@
 //! A tree of files: what it lists, what it gives, and what it was asked for.
-ghost use Rattle.std.specs.Prelude.{◌≡◌, ℕ, List, Option, IfOk};
+ghost use Rattle.std.specs.Prelude.{◌≡◌, ℕ, List, [], Option, IfOk};
 ghost use Rattle.outside.specs.Counts.{TreeCounts};
-ghost use Rattle.outside.specs.Trees.{IsListing, IsListOf, names_end, read_end, FitsReadLimit, Asks};
+ghost use Rattle.outside.specs.Trees.{IsListing, IsListOf, names_end, read_end, FitsReadLimit, Asks, HoldsSame};
 
 use base::{Text, TextList};
 use std::alloc::Global;
@@ -41,7 +41,13 @@ pub trait Tree {
     /// begins with a dot and one of over 1,024 bytes isn't listed and doesn't count.
     ghost listed: { Self → List (List ℕ) };
 
-    /// The paths that `read` was asked for so far, in order. Every object tells them.
+    /// What no call changes.
+    ghost Kept: { Type 0 };
+
+    /// What this tree keeps over all calls: over which objects it stands, and what they hold.
+    ghost kept: { Self → Kept };
+
+    /// The paths that `read` was asked for, in order, since the tree last forgot them. Every object tells them.
     ghost asked: { Self → List (List ℕ) };
 
     /// How often the tree has failed.
@@ -53,6 +59,7 @@ pub trait Tree {
         ensures names { tells → IfOk result (λ end. end ≡ names_end (listed self.old) limit) }
         ensures same { file self.new ≡ file self.old }
         ensures same_list { listed self.new ≡ listed self.old }
+        ensures kept { kept self.new ≡ kept self.old }
         ensures asked { asked self.new ≡ asked self.old }
         ensures cause { TreeCounts result (failed_reads self.old) (failed_reads self.new) };
 
@@ -64,8 +71,21 @@ pub trait Tree {
             IfOk result (λ end. end ≡ read_end (file self.old path.now) limit) }
         ensures same { file self.new ≡ file self.old }
         ensures same_list { listed self.new ≡ listed self.old }
+        ensures kept { kept self.new ≡ kept self.old }
         ensures asked { Asks result path.now (asked self.old) (asked self.new) }
         ensures cause { TreeCounts result (failed_reads self.old) (failed_reads self.new) };
+
+    /// Lets go of the paths that were asked for so far. It takes no memory.
+    fn forget(&mut self, alloc: Global)
+        ensures kept { kept self.new ≡ kept self.old }
+        ensures same { file self.new ≡ file self.old }
+        ensures same_list { listed self.new ≡ listed self.old }
+        ensures asked { asked self.new ≡ [] }
+        ensures no_fault { failed_reads self.new ≡ failed_reads self.old };
+
+    /// Trees that keep the same hold and list the same.
+    ghost holds: { (a b : Self) → kept a ≡ kept b →
+        HoldsSame (file a) (file b) (listed a) (listed b) };
 
     /// What is listed are the paths that have a file and the form of a listed path.
     ghost lists: { (tree : Self) → IsListOf (file tree) (listed tree) };

@@ -22,10 +22,10 @@ use Rattle.base.specs.Names.{is_same_name}
 use Rattle.project_file.specs.Csv.{then_read}
 use Rattle.project_file.specs.Paths.{matches_path}
 use Rattle.project_file.specs.Steps.{ReadsStep}
-use Rattle.project_file.specs.Toml.{is_among, library_after, matching_names, file_in, library_files, files_of, place_of, required, optional, texts_of, words_of}
+use Rattle.project_file.specs.Toml.{is_among, library_after, matching_names, file_in, library_files, files_of, place_of, required, texts_of}
 use Rattle.project_file.specs.Libraries.{alone}
 use Rattle.project_file.specs.Few.{among_files, faults_of, has_path, is_wanted, library_name, IsLookup}
-use Rattle.project_file.proofs.TomlNames.{files_new, named_is, named_new, ok_same, then_ok, AreNew}
+use Rattle.project_file.proofs.TomlNames.{files_new, files_read, named_is, named_new, ok_same, then_ok, AreNew}
 use Rattle.project_file.proofs.PairSteps.{not_found}
 
 -- ## The names of one library
@@ -87,23 +87,16 @@ when_named false matched = refl
 -- the files of one library
 library_has : (names compiler : List (List ℕ)) (library : List ℕ) (table : Members) (files : List ProjectFile) (name : FileName) → library_files names compiler library table ≡ Ok files
     → (has : Bool) × (has_path names name.path table ≡ Ok has) × (among_files files name ≡ (bytes_eq library name.library && has))
-unfolding library_files
 library_has names compiler library table files name h =
-    let read_options : Result (List (List ℕ)) ProjectFault = optional (words_of 0) [] (codes "library.") (codes "options") table in
-    let third : List (List ℕ) → List (List ℕ) → Result (List ProjectFile) ProjectFault = λ paths options. Ok (map (file_in library (compiler ++ options)) paths) in
-    let second : List (List ℕ) → Result (List ProjectFile) ProjectFault = λ paths. then_read read_options (third paths) in
-    let first : List (List ℕ) → Result (List ProjectFile) ProjectFault = λ patterns. then_read (matching_names names [] patterns) second in
-    let patterns = then_ok (required (texts_of Some) (codes "library.") (codes "files") table) first files h in
-    let paths = then_ok (matching_names names [] patterns.0) second files patterns.2 in
-    let options = then_ok read_options (third paths.0) files paths.2 in
-    let matched = list_any (λ pattern. matches_path pattern name.path) patterns.0 in
+    let read = files_read names compiler library table files h in
+    let matched = list_any (λ pattern. matches_path pattern name.path) read.patterns in
     let named = is_among names name.path in
     let look : List (List ℕ) → Result Bool ProjectFault = λ patterns. Ok (list_any (λ pattern. matches_path pattern name.path) patterns) in
-    let said : ◌≡◌ {A = Result Bool ProjectFault} (then_read (required (texts_of Some) (codes "library.") (codes "files") table) look) (Ok matched) = ap (λ s. then_read s look) patterns.1 in (
+    let said : ◌≡◌ {A = Result Bool ProjectFault} (then_read (required (texts_of Some) (codes "library.") (codes "files") table) look) (Ok matched) = ap (λ s. then_read s look) read.listed in (
       named && matched,
       ap (λ (s : Result Bool ProjectFault). cond named s (Ok false)) said ∙ when_named named matched,
-      ap (λ fs. among_files fs name) (sym (ok_same (map (file_in library (compiler ++ options.0)) paths.0) files options.2)) ∙ among_in library (compiler ++ options.0) paths.0 name
-          ∙ ap (λ b. bytes_eq library name.library && b) (matched_has names [] patterns.0 paths.0 name.path paths.1),
+      ap (λ fs. among_files fs name) (sym read.are) ∙ among_in library (compiler ++ read.options) read.paths name
+          ∙ ap (λ b. bytes_eq library name.library && b) (matched_has names [] read.patterns read.paths name.path read.matched),
     )
 
 -- ## The names of all libraries

@@ -1,5 +1,5 @@
 -- Rows of the ends of a path, with one part more or one place more.
-use Rattle.std.proofs.Common.{◌≡◌, ℕ, zero, suc, ◌+◌, ◌<◌, ◌≤◌, Bool, true, false, ◌&&◌, ◌||◌, cond, List, [], ◌∷◌, ◌++◌, length, drop, get_or, set, refl, sym, ap, subst, ◌∙◌, arith, inl, inr}
+use Rattle.std.proofs.Common.{◌≡◌, ℕ, zero, suc, ◌+◌, ◌-◌, ◌<◌, ◌≤◌, Bool, true, false, ◌&&◌, ◌||◌, cond, List, [], ◌∷◌, ◌++◌, length, drop, get_or, set, refl, sym, ap, subst, ◌∙◌, arith, inl, inr}
 use Rattle.std.specs.Prelude.{replicate}
 use Rattle.std.specs.Borrow.{Bor}
 use Rattle.std.proofs.lemmas.Bool.{cases_lt}
@@ -126,3 +126,7 @@ pub one_part : (parts : List Part) (i : ℕ) (part : Part) (components : List (B
     → IsRow (first_is (is_match part.pattern) (fits_parts (drop (i + 1) parts))) components row → IsRow (fits_parts (drop i parts)) components row
 one_part parts i part components row low is any row_is =
     more_parts parts i part components row low is (subst (λ b. IsRow (λ cs. cond b (any_end (fits_parts (drop (i + 1) parts)) cs) (first_is (is_match part.pattern) (fits_parts (drop (i + 1) parts)) cs)) components row) (sym any) row_is)
+
+-- a loop that goes down is at a place before the end
+pub one_down : (at end : ℕ) → at ≤ end → 0 < at → (at - 1 < end) × (at ≡ at - 1 + 1)
+one_down at end within some = (omega (arith, within, some), omega (arith, some))

@@ -90,11 +90,19 @@ named_is before table library h =
     let is = new_by (bytes_eq read.0 (codes "work")) (is_among before read.0) read.0 library read.2 in
     read.1 ∙ ap Ok is.0
 
--- what the files of a library are
-pub files_in : (names compiler : List (List ℕ)) (library : List ℕ) (table : Members) (files : List ProjectFile) → AllPairs (λ a b. a ≢ b) names → library_files names compiler library table ≡ Ok files
-    → (command paths : List (List ℕ)) × (files ≡ map (file_in library command) paths) × AllPairs (λ a b. a ≢ b) paths
+-- what was read of a library whose files are known
+pub record AreRead (names compiler : List (List ℕ)) (library : List ℕ) (table : Members) (files : List ProjectFile) : Type 0 where
+  pub patterns : List (List ℕ)
+  pub paths : List (List ℕ)
+  pub options : List (List ℕ)
+  pub listed : required (texts_of Some) (codes "library.") (codes "files") table ≡ Ok patterns
+  pub matched : matching_names names [] patterns ≡ Ok paths
+  pub told : optional (words_of 0) [] (codes "library.") (codes "options") table ≡ Ok options
+  pub are : map (file_in library (compiler ++ options)) paths ≡ files
+
+pub files_read : (names compiler : List (List ℕ)) (library : List ℕ) (table : Members) (files : List ProjectFile) → library_files names compiler library table ≡ Ok files → AreRead names compiler library table files
 unfolding library_files
-files_in names compiler library table files once h =
+files_read names compiler library table files h =
     let read_options : Result (List (List ℕ)) ProjectFault = optional (words_of 0) [] (codes "library.") (codes "options") table in
     let third : List (List ℕ) → List (List ℕ) → Result (List ProjectFile) ProjectFault = λ paths options. Ok (map (file_in library (compiler ++ options)) paths) in
     let second : List (List ℕ) → Result (List ProjectFile) ProjectFault = λ paths. then_read read_options (third paths) in
@@ -102,8 +110,23 @@ files_in names compiler library table files once h =
     let patterns = then_ok (required (texts_of Some) (codes "library.") (codes "files") table) first files h in
     let paths = then_ok (matching_names names [] patterns.0) second files patterns.2 in
     let options = then_ok read_options (third paths.0) files paths.2 in
+    record {
+      patterns = patterns.0;
+      paths = paths.0;
+      options = options.0;
+      listed = patterns.1;
+      matched = paths.1;
+      told = options.1;
+      are = ok_same (map (file_in library (compiler ++ options.0)) paths.0) files options.2;
+    }
+
+-- what the files of a library are
+pub files_in : (names compiler : List (List ℕ)) (library : List ℕ) (table : Members) (files : List ProjectFile) → AllPairs (λ a b. a ≢ b) names → library_files names compiler library table ≡ Ok files
+    → (command paths : List (List ℕ)) × (files ≡ map (file_in library command) paths) × AllPairs (λ a b. a ≢ b) paths
+files_in names compiler library table files once h =
+    let read = files_read names compiler library table files h in
     let nothing : AllPairs (λ (a b : List ℕ). a ≢ b) [] = λ i j d lt low. absurd (omega (arith, low)) in
-    (compiler ++ options.0, paths.0, sym (ok_same (map (file_in library (compiler ++ options.0)) paths.0) files options.2), matching_once names [] patterns.0 paths.0 once nothing paths.1)
+    (compiler ++ read.options, read.paths, sym read.are, matching_once names [] read.patterns read.paths once nothing read.matched)
 
 -- The names of all files are distinct, and none is in a library before.
 pub record AreNew (before : List (List ℕ)) (files : List ProjectFile) : Type 0 where

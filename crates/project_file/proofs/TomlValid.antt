@@ -19,7 +19,7 @@ use Rattle.base.specs.declared.project.ProjectFault.TheVariants.{MissingKey, Not
 use Rattle.base.specs.declared.limits.TheConstants.{LIBRARY_LIMIT, LISTED_WORD_LIMIT, PATH_LIMIT, WORD_LIMIT}
 use Rattle.base.specs.Names.{IsBetween, FitsCommand}
 use Rattle.base.specs.Projects.{FitsSimulator, IsProject, IsProjectFile}
-use Rattle.project_file.specs.Csv.{is_library, listed_command, listed_simulator, then_read}
+use Rattle.project_file.specs.Csv.{is_library, listed_command, listed_simulator}
 use Rattle.project_file.specs.Paths.{matches_path}
 use Rattle.project_file.specs.Pairs.{names_of}
 use Rattle.project_file.specs.Steps.{ReadsStep}
@@ -27,7 +27,7 @@ use Rattle.project_file.specs.Toml.{all_read, array_of, few, file_in, files_of, 
 use Rattle.project_file.specs.Few.{few_said}
 use Rattle.project_file.proofs.CsvProject.{begins_not_empty}
 use Rattle.project_file.proofs.FewLinks.{few_project_is}
-use Rattle.project_file.proofs.TomlNames.{files_new, new_by, ok_same, then_ok}
+use Rattle.project_file.proofs.TomlNames.{files_new, files_read, new_by, ok_same, then_ok}
 
 -- ## Values
 
@@ -137,19 +137,12 @@ library_files_fit library command (path ∷ paths) fits words are (suc k) d low 
 
 module _ (names compiler : List (List ℕ)) (paths_fit : All (λ name. IsBetween 1 PATH_LIMIT (length name)) names) (words : AreWordsOf 1 compiler) where
   one_library : (library : List ℕ) (table : Members) (files : List ProjectFile) → IsBetween 1 LIBRARY_LIMIT (length library) → library_files names compiler library table ≡ Ok files → All IsProjectFile files
-  unfolding library_files
   one_library library table files fits h =
-      let read_options : Result (List (List ℕ)) ProjectFault = optional (words_of 0) [] (codes "library.") (codes "options") table in
-      let third : List (List ℕ) → List (List ℕ) → Result (List ProjectFile) ProjectFault = λ paths options. Ok (map (file_in library (compiler ++ options)) paths) in
-      let second : List (List ℕ) → Result (List ProjectFile) ProjectFault = λ paths. then_read read_options (third paths) in
-      let first : List (List ℕ) → Result (List ProjectFile) ProjectFault = λ patterns. then_read (matching_names names [] patterns) second in
-      let patterns = then_ok (required (texts_of Some) (codes "library.") (codes "files") table) first files h in
-      let paths = then_ok (matching_names names [] patterns.0) second files patterns.2 in
-      let options = then_ok read_options (third paths.0) files paths.2 in
-      let are : AreWordsOf 0 options.0 = optional_holds (AreWordsOf 0) (words_of 0) (codes "library.") (codes "options") table options.0 (words_fit 0) [] (record { count = record { at_least = omega arith; at_most = omega arith }; each = All-nil (λ word. IsBetween 1 WORD_LIMIT (length word)) }) options.1 in
-      subst (All IsProjectFile) (ok_same (map (file_in library (compiler ++ options.0)) paths.0) files options.2)
-      (library_files_fit library (compiler ++ options.0) paths.0 fits (command_fits compiler options.0 words are)
-      (matching_fit (λ path. IsBetween 1 PATH_LIMIT (length path)) names [] patterns.0 paths.0 paths_fit (All-nil (λ path. IsBetween 1 PATH_LIMIT (length path))) paths.1))
+      let read = files_read names compiler library table files h in
+      let are : AreWordsOf 0 read.options = optional_holds (AreWordsOf 0) (words_of 0) (codes "library.") (codes "options") table read.options (words_fit 0) [] (record { count = record { at_least = omega arith; at_most = omega arith }; each = All-nil (λ word. IsBetween 1 WORD_LIMIT (length word)) }) read.told in
+      subst (All IsProjectFile) read.are
+      (library_files_fit library (compiler ++ read.options) read.paths fits (command_fits compiler read.options words are)
+      (matching_fit (λ path. IsBetween 1 PATH_LIMIT (length path)) names [] read.patterns read.paths paths_fit (All-nil (λ path. IsBetween 1 PATH_LIMIT (length path))) read.matched))
 
   library_named : (before : List (List ℕ)) (table : Members) (library : List ℕ) → library_after before table ≡ Ok library → IsBetween 1 LIBRARY_LIMIT (length library)
   unfolding library_after new_library

@@ -1,13 +1,12 @@
 -- The files of a linked project are a graph, and its first files are, one after the other.
-use Rattle.std.proofs.Common.{◌≡◌, ◌≢◌, ℕ, zero, suc, ◌+◌, ◌<◌, ◌≤◌, Bool, true, cond, Some, List, [], ◌∷◌, ◌++◌, length, map, get_or, take, drop, refl, sym, ap, subst, ◌∙◌, arith, inl, inr}
+use Rattle.std.proofs.Common.{◌≡◌, ◌≢◌, ℕ, zero, suc, ◌+◌, ◌<◌, ◌≤◌, Bool, true, Some, List, [], ◌∷◌, ◌++◌, length, map, get_or, take, drop, refl, sym, ap, subst, ◌∙◌, arith, inl, inr}
 use Rattle.std.specs.Prelude.{All, AllPairs, Contains, slice_get, sum_by, filter}
 use Rattle.std.specs.List.{filter_map}
-use Rattle.std.specs.List.Sorted.{IsStrictlyIncreasing}
 use Rattle.std.specs.Option.{option_map}
 use Rattle.std.proofs.Math.ListN.{set}
 use Rattle.std.proofs.lemmas.Bool.{cases_Bool, cases_lt, cond-true, cond-false}
 use Rattle.std.proofs.lemmas.List.{length-map, get_or-map, get_or_default, get_or-set_other, length-set, take_more, take-append-drop}
-use Rattle.std.proofs.lemmas.List.Elements.{filter-append, filter_passes, All-filter}
+use Rattle.std.proofs.lemmas.List.Elements.{filter_passes, All-filter}
 use Rattle.std.proofs.lemmas.List.Kept.{IsStrictlyIncreasing-filter}
 use Rattle.std.proofs.lemmas.List.Sums.{sum_by-cons, sum_by-set}
 use Rattle.std.proofs.lemmas.Option.{slice_get-get_or}
@@ -18,13 +17,12 @@ use Rattle.base.specs.declared.project.Project.{Project}
 use Rattle.base.specs.Graphs.{IsEntryAt, IsGraph}
 use Rattle.base.specs.Projects.{IsProject}
 use Rattle.base.specs.PresentGraph.{below}
-use Rattle.base.proofs.Below.{length-below, get_or-below}
 use Rattle.base.proofs.GraphPrefixes.{IsGraph-prefix}
 use Rattle.base_position_set.specs.declared.set.PositionSet.{PositionSet}
 use Rattle.base_position_set.specs.Positions.{has}
 use Rattle.order_spec.specs.BuildOrder.{AreEdges, IsBuildOrder}
 use Rattle.order_spec.specs.LinkedGraph.{reaches, closure_of, linked_entry, linked, FitTexts}
-use Rattle.order_spec.proofs.Finds.{Contains-later, Contains-first, in_below}
+use Rattle.order_spec.proofs.Finds.{Contains-later, Contains-first, in_below, below_all, below_rises, filter_below}
 use Rattle.order_spec.proofs.Reaching.{reached_before, reaches_on}
 use Rattle.project_graph.specs.Rows.{row_has}
 use Rattle.project_graph.proofs.RowSteps.{row_at}
@@ -44,22 +42,6 @@ kept p (y ∷ ys) x (suc k, lt, is) does =
       | inl here ↦ subst (λ (zs : List ℕ). Contains zs x) (sym (cond-true (p y) (y ∷ filter p ys) (filter p ys) here)) (Contains-later y x (filter p ys) rest)
       | inr fails ↦ subst (λ (zs : List ℕ). Contains zs x) (sym (cond-false (p y) (y ∷ filter p ys) (filter p ys) fails)) rest
     ]
-
-pub filter_below : (p q : ℕ → Bool) (n : ℕ) → ((k : ℕ) → k < n → p k ≡ q k) → filter p (below n) ≡ filter q (below n)
-unfolding below
-filter_below p q zero same = refl
-filter_below p q (suc n) same =
-    filter-append p (below n) (n ∷ []) ∙ ap (λ (xs : List ℕ). xs ++ filter p (n ∷ [])) (filter_below p q n (λ k lt. same k (omega arith)))
-    ∙ ap (λ (b : Bool). filter q (below n) ++ cond b (n ∷ []) []) (same n (omega arith)) ∙ sym (filter-append q (below n) (n ∷ []))
-
-below_rises : (n : ℕ) → IsStrictlyIncreasing (below n)
-below_rises n k lt =
-    let a : k < n = omega (arith, length-below n) in
-    let b : k + 1 < n = omega (arith, length-below n) in
-    rw (get_or-below n k 0 a, get_or-below n (k + 1) 0 b) (omega arith)
-
-below_all : (n : ℕ) → All (λ k. k < n) (below n)
-below_all n k d lt = let a : k < n = omega (arith, length-below n) in rw (get_or-below n k d a) a
 
 -- ## Sums over some texts, each once
 

@@ -15,22 +15,13 @@ use Rattle.base.proofs.Below.{length-below, get_or-below}
 use Rattle.vhdl_benches.specs.declared.bench.Bench.{Bench}
 use Rattle.order_spec.specs.BuildOrder.{AreEdges, IsBuildOrder, deps_in}
 use Rattle.order_spec.specs.LinkedGraph.{FitTexts, closure_of, linked, reaches, reaches_within}
-use Rattle.order_spec.proofs.Finds.{in_below}
+use Rattle.order_spec.proofs.Finds.{in_below, below_all, below_rises}
 use Rattle.vhdl_spec.proofs.SomeTests.{or_cases, or_first, some_of}
 use Rattle.project_graph.proofs.LinkedGraphs.{get_or-linked, length-linked}
 use Rattle.project_views.specs.Parts.{IsPart}
 use Rattle.project_views.proofs.ListedGraph.{get_or-listed_from, length-listed_from}
 use Rattle.vhdl_minimal_set.specs.MinimalSet.{NeedSources, is_needed, needed_places, needs, said_of, uses, wants_of, units_at}
 use Rattle.vhdl_minimal_set.proofs.Least.{is_needy, some_passes}
-
-below_rises : (n : ℕ) → IsStrictlyIncreasing (below n)
-below_rises n k lt =
-    let a : k < n = omega (arith, length-below n) in
-    let b : k + 1 < n = omega (arith, length-below n) in
-    rw (get_or-below n k 0 a, get_or-below n (k + 1) 0 b) (omega arith)
-
-below_all : (n : ℕ) → All (λ k. k < n) (below n)
-below_all n k d lt = let a : k < n = omega (arith, length-below n) in rw (get_or-below n k d a) a
 
 in_filter : (p : ℕ → Bool) (xs : List ℕ) (x : ℕ) → Contains xs x → p x ≡ true → Contains (filter p xs) x
 in_filter p [] x (k, within, is) told = absurd (omega arith)

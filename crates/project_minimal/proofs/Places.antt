@@ -4,7 +4,7 @@ use Rattle.std.specs.Prelude.{All, filter, slice_index}
 use Rattle.base.specs.PresentGraph.{below}
 use Rattle.base.proofs.Below.{length-below, get_or-below}
 use Rattle.vhdl_benches.specs.declared.bench.Bench.{Bench}
-use Rattle.project_graph.proofs.LinkedGraphs.{filter_below}
+use Rattle.order_spec.proofs.Finds.{filter_below}
 use Rattle.vhdl_minimal_set.specs.MinimalSet.{NeedSources, is_needed, needed_places}
 
 module _ (said : NeedSources) (tests : List Bench) (set : ℕ → Bool) (same : (at : ℕ) → at < length said.files → set at ≡ is_needed said tests at) where

@@ -22,6 +22,7 @@ pub(crate) fn read_file<T: Tree>(
     ensures stop { IsPlain result }
     ensures same { T.file tree.new ≡ T.file tree.old }
     ensures same_list { T.listed tree.new ≡ T.listed tree.old }
+    ensures kept { T.kept tree.new ≡ T.kept tree.old }
     ensures asked { AsksInOrder result (path.now ∷ []) (T.asked tree.old) (T.asked tree.new) }
     ensures cause { ReadCounts result (T.failed_reads tree.old) (T.failed_reads tree.new) }
 {
@@ -43,6 +44,7 @@ pub(crate) fn list_names<T: Tree>(
     ensures stop { IsPlain result }
     ensures same { T.file tree.new ≡ T.file tree.old }
     ensures same_list { T.listed tree.new ≡ T.listed tree.old }
+    ensures kept { T.kept tree.new ≡ T.kept tree.old }
     ensures asked { T.asked tree.new ≡ T.asked tree.old }
     ensures cause { ReadCounts result (T.failed_reads tree.old) (T.failed_reads tree.new) }
 {

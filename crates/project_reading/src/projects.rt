@@ -91,6 +91,7 @@ fn read_toml<T: Tree>(alloc: Global, tree: &mut T, bytes: Text) -> Result<Projec
     ensures valid { IfOk result IsProject }
     ensures same { T.file tree.new ≡ T.file tree.old }
     ensures same_list { T.listed tree.new ≡ T.listed tree.old }
+    ensures kept { T.kept tree.new ≡ T.kept tree.old }
     ensures asked { T.asked tree.new ≡ T.asked tree.old }
     ensures cause { ReadCounts result (T.failed_reads tree.old) (T.failed_reads tree.new) }
 {
@@ -108,6 +109,7 @@ fn read_csv<T: Tree>(alloc: Global, tree: &mut T) -> Result<Project, ReadStop>
     ensures valid { IfOk result IsProject }
     ensures same { T.file tree.new ≡ T.file tree.old }
     ensures same_list { T.listed tree.new ≡ T.listed tree.old }
+    ensures kept { T.kept tree.new ≡ T.kept tree.old }
     ensures asked { AsksInOrder result (codes "vunit.csv" ∷ [])
         (T.asked tree.old) (T.asked tree.new) }
     ensures cause { ReadCounts result (T.failed_reads tree.old) (T.failed_reads tree.new) }
@@ -128,6 +130,7 @@ pub(crate) fn find_project<T: Tree>(alloc: Global, tree: &mut T) -> Result<Proje
     ensures valid { IfOk result IsProject }
     ensures same { T.file tree.new ≡ T.file tree.old }
     ensures same_list { T.listed tree.new ≡ T.listed tree.old }
+    ensures kept { T.kept tree.new ≡ T.kept tree.old }
     ensures asked { T.tells →
         AsksInOrder result (project_file_paths (T.file tree.old))
         (T.asked tree.old) (T.asked tree.new) }

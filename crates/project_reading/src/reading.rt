@@ -55,6 +55,7 @@ fn read_files<T: Tree>(
     ensures form { IfOk result (IsReadProject wish.now) }
     ensures same { T.file tree.new ≡ T.file tree.old }
     ensures same_list { T.listed tree.new ≡ T.listed tree.old }
+    ensures kept { T.kept tree.new ≡ T.kept tree.old }
     ensures asked { AsksInOrder result (file_paths project.files)
         (T.asked tree.old) (T.asked tree.new) }
     ensures cause { ReadCounts result (T.failed_reads tree.old) (T.failed_reads tree.new) }
@@ -76,6 +77,7 @@ fn read_sources<T: Tree>(
     ensures form { IfOk result (IsReadProject wish.now) }
     ensures same { T.file tree.new ≡ T.file tree.old }
     ensures same_list { T.listed tree.new ≡ T.listed tree.old }
+    ensures kept { T.kept tree.new ≡ T.kept tree.old }
     ensures asked { AsksInOrder result (source_paths project)
         (T.asked tree.old) (T.asked tree.new) }
     ensures cause { ReadCounts result (T.failed_reads tree.old) (T.failed_reads tree.new) }
@@ -99,6 +101,7 @@ pub fn read_project<T: Tree>(
     ensures form { IfOk result (IsReadProject wish.now) }
     ensures same { T.file tree.new ≡ T.file tree.old }
     ensures same_list { T.listed tree.new ≡ T.listed tree.old }
+    ensures kept { T.kept tree.new ≡ T.kept tree.old }
     ensures asked { T.tells →
         let paths = project_paths (T.file tree.old) (T.listed tree.old) in
         AsksInOrder result paths (T.asked tree.old) (T.asked tree.new) }

@@ -59,6 +59,7 @@ fn text_of<T: Tree>(
     ensures short { IfOk result (λ text. length text ≤ TEXT_LIMIT) }
     ensures same { T.file tree.new ≡ T.file tree.old }
     ensures same_list { T.listed tree.new ≡ T.listed tree.old }
+    ensures kept { T.kept tree.new ≡ T.kept tree.old }
     ensures asked { AsksInOrder result (name.now.path ∷ []) (T.asked tree.old) (T.asked tree.new) }
     ensures cause { ReadCounts result (T.failed_reads tree.old) (T.failed_reads tree.new) }
 {
@@ -79,6 +80,7 @@ pub(crate) fn texts_of<T: Tree>(
     ensures size { IfOk result (FitTexts files.now) }
     ensures same { T.file tree.new ≡ T.file tree.old }
     ensures same_list { T.listed tree.new ≡ T.listed tree.old }
+    ensures kept { T.kept tree.new ≡ T.kept tree.old }
     ensures asked { AsksInOrder result (file_paths files.now)
         (T.asked tree.old) (T.asked tree.new) }
     ensures cause { ReadCounts result (T.failed_reads tree.old) (T.failed_reads tree.new) }

@@ -7,6 +7,6 @@ mod same;
 mod views;
 
 pub use closed_parts::laws_of_parts;
-pub use listed::listed_graph;
+pub use listed::{listed_entry, listed_graph};
 pub use same::same_words;
 pub use views::laws_of_views;

@@ -20,7 +20,7 @@ fn earlier(alloc: Global, position: u32) -> Result<Positions, NoMemory>
 }
 
 /// A file at a position of a listed project.
-fn listed_entry(
+pub fn listed_entry(
     alloc: Global,
     position: u32,
     file: &ProjectFile,

@@ -52,30 +52,35 @@ once_with_product shelf draft once is = record {
   products = once_more is_same_built same_built-Decides shelf.products (drafted_product shelf.texts draft) once.products is.new;
 }
 
-by_test : (P : RequestShelf → Type 0) (test : Bool) (x y : RequestShelf) → (test ≡ true → P x) → P y → P (if test then x else y)
-by_test P true x y one two = one refl
-by_test P false x y one two = two
+-- what drafts keep of a shelf holds of the shelf of any payloads, if it does of the bare one
+module _ (P : RequestShelf → Type 0) (product : (shelf : RequestShelf) (draft : ProductDraft) → P shelf → IsNewProduct shelf draft → P (with_product shelf draft)) (request : (shelf : RequestShelf) (draft : RequestDraft) → P shelf → IsRequest shelf draft → P (with_request shelf draft)) where
+  by_test : (test : Bool) (x y : RequestShelf) → (test ≡ true → P x) → P y → P (if test then x else y)
+  by_test true x y one two = one refl
+  by_test false x y one two = two
 
-once_payload : (shelf : RequestShelf) (payload : RequestPayload) → AreNumberedOnce shelf → AreNumberedOnce (with_request_payload shelf payload)
-unfolding with_request_payload
-once_payload shelf (OfProduct draft) once = by_test AreNumberedOnce (is_new_product shelf draft) (with_product shelf draft) shelf (λ e. once_with_product shelf draft once ((new_product-Decides shelf draft).0 e)) once
-once_payload shelf (OfRequest draft) once = by_test AreNumberedOnce (is_request shelf draft) (with_request shelf draft) shelf (λ e. once_with_request shelf draft once ((request-Decides shelf draft).0 e)) once
+  by_payload : (shelf : RequestShelf) (payload : RequestPayload) → P shelf → P (with_request_payload shelf payload)
+  unfolding with_request_payload
+  by_payload shelf (OfProduct draft) is = by_test (is_new_product shelf draft) (with_product shelf draft) shelf (λ e. product shelf draft is ((new_product-Decides shelf draft).0 e)) is
+  by_payload shelf (OfRequest draft) is = by_test (is_request shelf draft) (with_request shelf draft) shelf (λ e. request shelf draft is ((request-Decides shelf draft).0 e)) is
 
-once_found : (shelf : RequestShelf) (found : Option RequestPayload) → AreNumberedOnce shelf → AreNumberedOnce (option_map_or (with_request_payload shelf) found shelf)
-once_found shelf None once = once
-once_found shelf (Some payload) once = once_payload shelf payload once
+  by_found : (shelf : RequestShelf) (found : Option RequestPayload) → P shelf → P (option_map_or (with_request_payload shelf) found shelf)
+  by_found shelf None is = is
+  by_found shelf (Some payload) is = by_payload shelf payload is
 
-pub once_after : (shelf : RequestShelf) (bytes : List ℕ) → AreNumberedOnce shelf → AreNumberedOnce (after_request_payload shelf bytes)
-unfolding after_request_payload
-once_after shelf bytes once = once_found shelf (request_payload_in bytes) once
+  by_bytes : (shelf : RequestShelf) (bytes : List ℕ) → P shelf → P (after_request_payload shelf bytes)
+  unfolding after_request_payload
+  by_bytes shelf bytes is = by_found shelf (request_payload_in bytes) is
 
-once_from : (shelf : RequestShelf) (payloads : List (List ℕ)) → AreNumberedOnce shelf → AreNumberedOnce (fold after_request_payload shelf payloads)
-once_from shelf [] once = once
-once_from shelf (payload ∷ payloads) once = once_from (after_request_payload shelf payload) payloads (once_after shelf payload once)
+  by_each : (shelf : RequestShelf) (payloads : List (List ℕ)) → P shelf → P (fold after_request_payload shelf payloads)
+  by_each shelf [] is = is
+  by_each shelf (payload ∷ payloads) is = by_each (after_request_payload shelf payload) payloads (by_bytes shelf payload is)
+
+  pub by_payloads : P bare_shelf → (payloads : List (List ℕ)) → P (request_shelf_of payloads)
+  unfolding request_shelf_of
+  by_payloads bare payloads = by_each bare_shelf payloads bare
 
 pub once_in_all : (payloads : List (List ℕ)) → AreNumberedOnce (request_shelf_of payloads)
-unfolding request_shelf_of
-once_in_all payloads = once_from bare_shelf payloads (record { texts = λ i j d a b. absurd (omega arith); products = λ i j d a b. absurd (omega arith) })
+once_in_all = by_payloads AreNumberedOnce once_with_product once_with_request (record { texts = λ i j d a b. absurd (omega arith); products = λ i j d a b. absurd (omega arith) })
 
 pub adds_request : (shelf : RequestShelf) (draft : RequestDraft) → IsRequest shelf draft → IsSpellable (OfRequest draft) → after_request_payload shelf (request_payload_bytes (OfRequest draft)) ≡ with_request shelf draft
 unfolding after_request_payload with_request_payload

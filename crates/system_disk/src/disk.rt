@@ -1,4 +1,4 @@
-//! The disk: it opens its files at the first call, and fails for good at the first failure.
+//! The disk: it opens its files at the first call, closes them at a rest, and fails for good at the first failure.
 
 ghost use Rattle.std.specs.Prelude.{◌≡◌, ◌<◌, ◌+◌, ◌^◌, [], length, IfOk, OnOk, is_err};
 ghost use Rattle.outside.specs.Counts.{DiskCounts};
@@ -15,7 +15,7 @@ use system_causes::Cause;
 /// What became of the files so far.
 #[derive(Drop)]
 enum State {
-    /// No call was made.
+    /// No call was made, or none since the disk let its files go.
     Fresh,
     Open(Sides),
     /// A call failed, and so does every later one. Files that were open stay so, and locked: children may still run.
@@ -23,7 +23,8 @@ enum State {
 }
 
 /// A disk over the files `store_a` and `store_b` of a folder, which are opened or made at the first call, with the locks of
-/// both, which are held as long as the object is there. It counts its failures, and tells nothing of what it holds. After a failure every later call fails:
+/// both. They are held until the object is dropped or rests; the next call after a rest opens and locks them again. It counts
+/// its failures, and tells nothing of what it holds. After a failure every later call fails, and a rest closes nothing:
 /// what the system then holds of a file may be other than what is on the device.
 #[derive(Drop)]
 pub struct FileDisk {
@@ -55,7 +56,7 @@ impl FileDisk {
         Some((self.paths.path_of(fault.part).as_bytes(), fault.cause))
     }
 
-    /// Opens the files at the first call.
+    /// Opens the files at the first call, and at the first after a rest.
     fn open(&mut self)
         ensures { self.new.failures ≡ self.old.failures }
     {
@@ -195,5 +196,11 @@ impl Disk for FileDisk {
         self.open();
         let answer = sync(&mut self.state, side);
         self.answered(side, "sync", answer)
+    }
+
+    fn rest(&mut self) {
+        if let State::Open(_) = &self.state {
+            self.state = State::Fresh;
+        }
     }
 }

@@ -1,8 +1,10 @@
-//! Files and streams of the system: reading of a reader or of a file, to its end or up to a limit; the present folder as a
+//! Files and streams of the system: reading of a reader or of a file, by lines, to its end or up to a limit; the present folder as a
 //! tree of files; standard input and standard output.
 #![tactic(auto)]
 
+mod buffered;
 mod files;
+mod lines;
 mod listing;
 mod reading;
 mod streams;

@@ -5,10 +5,13 @@ ghost use Rattle.std.specs.Io.KnownBytes.{Consumes, Keeps, IsAtEnd};
 ghost use Rattle.std.specs.IoError.{error_kind};
 ghost use Rattle.std.specs.declared.io.ErrorKind.TheVariants.{OutOfMemory};
 ghost use Rattle.system_files.specs.Faults.{IsFailed};
+ghost use Rattle.outside.specs.Streams.{IsTaken};
 ghost use Rattle.system_files.specs.Prefixes.{IsPrefix};
+ghost use Rattle.system_files.specs.Takes.{IsTakenOf};
 ghost use Rattle.system_files.specs.declared.reading.IoFault.TheVariants.{NoMemory};
 
-use base::NoMemory;
+use base::{NoMemory, Text};
+use outside::TakeEnd;
 use std::alloc::{AllocError, AllocFailed, Global};
 use std::io;
 use std::io::{ErrorKind, Read};
@@ -122,7 +125,7 @@ pub fn drain<R: Read>(reader: &mut R, buffer: &mut [u8]) -> Result<(), IoFault>
 }
 
 /// One read, tried again where a signal interrupts it. 0 is the end.
-fn read_some<R: Read>(reader: &mut R, buffer: &mut [u8]) -> Result<usize, IoFault>
+pub(crate) fn read_some<R: Read>(reader: &mut R, buffer: &mut [u8]) -> Result<usize, IoFault>
     ensures bound { IfOk result (λ count. count ≤ length buffer.new) }
     ensures given { IfOk result (λ count.
         Consumes (R.remaining reader.old) (R.remaining reader.new) (take count buffer.new)) }
@@ -138,4 +141,23 @@ fn read_some<R: Read>(reader: &mut R, buffer: &mut [u8]) -> Result<usize, IoFaul
         }
     }
     Err(IoFault::failed("read", "it has no end"))
+}
+
+/// The input to its end. What is past the limit is read too, so that whoever writes it can end.
+pub(crate) fn take_whole<R: Read>(
+    reader: &mut R,
+    buffer: &mut [u8],
+    alloc: Global,
+    limit: u64,
+) -> Result<TakeEnd, IoFault>
+    requires { 0 < length buffer.old }
+    ensures size { IfOk result (IsTaken limit) }
+    ensures input { IfOk result (IsTakenOf limit (R.remaining reader.old)) }
+{
+    let prefix = read_prefix(reader, buffer, alloc, limit)?;
+    if prefix.more {
+        drain(reader, buffer)?;
+        return Ok(TakeEnd::TooLong);
+    }
+    Ok(TakeEnd::Got(Text::from_vec(prefix.kept)))
 }

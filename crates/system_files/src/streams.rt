@@ -1,19 +1,17 @@
 //! The source of all input, and the sink of all output.
 
-ghost use Rattle.std.specs.Prelude.{◌<◌, length, vec_len, IfOk};
-ghost use Rattle.outside.specs.Streams.{IsTaken};
-ghost use Rattle.system_files.specs.Takes.{IsTakenOf};
+ghost use Rattle.std.specs.Prelude.{Err};
+ghost use Rattle.outside.specs.Counts.{SourceCounts};
 
-use crate::{IoFault, drain, read_prefix};
-use base::{NoMemory, Text};
-use outside::{Sink, SinkFault, Source, SourceFault, TakeEnd, counted};
+use crate::IoFault;
+use crate::buffered::Buffered;
+use crate::lines::{take_line, take_rest};
+use base::NoMemory;
+use outside::{LineEnd, Sink, SinkFault, Source, SourceFault, TakeEnd, counted};
 use std::alloc::Global;
 use std::io;
 use std::io::Write;
 use system_causes::{Cause, named};
-
-/// The bytes that one read takes at most.
-const CHUNK: usize = 65536;
 
 /// Standard input. It counts its failures, and tells nothing of what it holds.
 #[derive(Drop)]
@@ -21,8 +19,8 @@ pub struct StdSource<R> {
     input: R,
     failures: u64,
     cause: Option<Cause>,
-    buffer: Vec<u8>,
-    ghost has_room: { 0 < vec_len buffer },
+    // what was read past the line that was taken last
+    buffered: Buffered,
 }
 
 impl<R: Input> StdSource<R> {
@@ -35,7 +33,7 @@ impl<R: Input> StdSource<R> {
             input,
             failures: 0,
             cause: None,
-            buffer: vec![in alloc; 0; CHUNK]?,
+            buffered: Buffered::new(alloc)?,
         })
     }
 
@@ -45,23 +43,21 @@ impl<R: Input> StdSource<R> {
     }
 }
 
-/// The input to its end. What is past the limit is read too, so that whoever writes it can end.
-fn take_whole<R: io::Read>(
-    reader: &mut R,
-    buffer: &mut [u8],
-    alloc: Global,
-    limit: u64,
-) -> Result<TakeEnd, IoFault>
-    requires { 0 < length buffer.old }
-    ensures size { IfOk result (IsTaken limit) }
-    ensures input { IfOk result (IsTakenOf limit (R.remaining reader.old)) }
-{
-    let prefix = read_prefix(reader, buffer, alloc, limit)?;
-    if prefix.more {
-        drain(reader, buffer)?;
-        return Ok(TakeEnd::TooLong);
+impl<R: Input> StdSource<R> {
+    /// What a failure of the input is told as. It is counted, but for a lack of memory.
+    fn fault(&mut self, fault: IoFault) -> SourceFault
+        ensures line { SourceCounts {T = LineEnd} (Err result) self.old.failures self.new.failures }
+        ensures rest { SourceCounts {T = TakeEnd} (Err result) self.old.failures self.new.failures }
+    {
+        match fault {
+            IoFault::NoMemory => SourceFault::NoMemory,
+            IoFault::Failed(cause) => {
+                self.cause = Some(cause);
+                self.failures = counted(self.failures);
+                SourceFault::Failed
+            }
+        }
     }
-    Ok(TakeEnd::Got(Text::from_vec(prefix.kept)))
 }
 
 impl<R: Input> Source for StdSource<R> {
@@ -73,16 +69,19 @@ impl<R: Input> Source for StdSource<R> {
 
     ghost failed_takes = { λ a. a.failures };
 
+    fn take_line(&mut self, alloc: Global, limit: u64) -> Result<LineEnd, SourceFault> {
+        let mut reader = self.input.reader();
+        match take_line(&mut self.buffered, &mut reader, alloc, limit) {
+            Ok(end) => Ok(end),
+            Err(fault) => Err(self.fault(fault)),
+        }
+    }
+
     fn take(&mut self, alloc: Global, limit: u64) -> Result<TakeEnd, SourceFault> {
         let mut reader = self.input.reader();
-        match take_whole(&mut reader, self.buffer.as_mut_slice(), alloc, limit) {
+        match take_rest(&mut self.buffered, &mut reader, alloc, limit) {
             Ok(end) => Ok(end),
-            Err(IoFault::NoMemory) => Err(SourceFault::NoMemory),
-            Err(IoFault::Failed(cause)) => {
-                self.cause = Some(cause);
-                self.failures = counted(self.failures);
-                Err(SourceFault::Failed)
-            }
+            Err(fault) => Err(self.fault(fault)),
         }
     }
 }

@@ -18,7 +18,7 @@ const CHUNK: usize = 65536;
 #[derive(Drop)]
 pub struct FileTree<R> {
     files: R,
-    // the paths that were read or tried, in order: as long as the program runs, which asks for each path once
+    // the paths that were read or tried, in order, since the tree last forgot them: a run asks for each path once
     asked: TextList,
     failures: u64,
     // why a call failed, and in a listing the path of the folder or the entry where that was
@@ -66,7 +66,15 @@ impl<R: Files> FileTree<R> {
 }
 
 impl<R: Files + AllocGlobal + Clone + Drop> Tree for FileTree<R> {
+    ghost use Rattle.system_files.specs.Untold.{untold_same};
+
     ghost tells = { ⊥ };
+
+    ghost Kept = { Unit {0} };
+
+    ghost kept = { λ _. tt };
+
+    ghost holds = { λ _ _ _. untold_same };
 
     ghost file = { λ _. no_file };
 
@@ -105,5 +113,9 @@ impl<R: Files + AllocGlobal + Clone + Drop> Tree for FileTree<R> {
                 Err(TreeFault::Failed)
             }
         }
+    }
+
+    fn forget(&mut self, alloc: Global) {
+        self.asked = TextList::new(alloc);
     }
 }

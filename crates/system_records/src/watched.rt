@@ -76,4 +76,8 @@ impl<D: Disk + Drop> Disk for WatchedDisk<D> {
     fn sync(&mut self, side: Side) -> Result<(), DiskFailed> {
         self.disk.sync(side)
     }
+
+    fn rest(&mut self) {
+        self.disk.rest()
+    }
 }

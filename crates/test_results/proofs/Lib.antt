@@ -1,3 +1,2 @@
 -- The lemmas.
-pub mod NameSets
 pub mod Sayings

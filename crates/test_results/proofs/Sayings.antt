@@ -1,6 +1,6 @@
 -- What lines say, and then other lines.
-use Rattle.std.proofs.Common.{◌≡◌, ℕ, suc, ◌+◌, ◌<◌, ◌≤◌, Bool, true, false, ◌||◌, ◌&&◌, eqb, ltb, List, [], ◌∷◌, ◌++◌, length, take, drop, map, filter, Option, Some, None, refl, sym, ap, subst, ◌∙◌, arith, inl, inr}
-use Rattle.std.specs.List.{filter_map, last_or, list_any, onto_first, position, position_or_len, slice_split}
+use Rattle.std.proofs.Common.{◌≡◌, ℕ, suc, ◌+◌, ◌<◌, ◌≤◌, Bool, true, false, ◌||◌, ◌&&◌, eqb, ltb, List, [], ◌∷◌, ◌++◌, length, take, drop, map, filter, Option, Some, None, refl, sym, ap, ◌∙◌, arith, inl, inr}
+use Rattle.std.specs.List.{filter_map, last_or, onto_first, position, position_or_len, slice_split}
 use Rattle.std.specs.Str.{bytes_eq}
 use Rattle.std.specs.Str.Lines.{strip_carriage_return}
 use Rattle.std.proofs.lemmas.Bool.{cases_Bool, cond-true, cond-false, ltb-true, ltb-false}
@@ -11,8 +11,8 @@ use Rattle.std.proofs.lemmas.Option.{none-some, same_Some}
 use Rattle.std.proofs.Math.Path.{fun_ext}
 use Rattle.base.specs.declared.child.MaybeText.TheVariants.{Given}
 use Rattle.test_spec.specs.declared.ends.Verdict.{Verdict}
-use Rattle.test_spec.specs.Verdicts.{case_starts, case_verdict, ends_well, has_case, is_done_line, passed_if, result_lines, says_done, started_name, verdicts}
-use Rattle.test_results.specs.Starts.{Adds, HasAll, Sayings, no_sayings, verdict_by}
+use Rattle.test_spec.specs.Verdicts.{HasAll, case_starts, case_verdict, ends_well, has_case, is_done_line, result_lines, says_done, started_name, verdicts}
+use Rattle.test_results.specs.Starts.{Adds, Sayings, no_sayings, verdict_by}
 
 -- ## Starts of lines after one another
 

@@ -23,10 +23,6 @@ pub record Adds (cases lines : List (List ℕ)) (earlier later : Sayings) : Type
   pub last : later.last ≡ last_or earlier.last (case_starts cases lines)
   pub is_done : later.is_done ≡ (earlier.is_done || says_done lines)
 
--- a set has just these names
-abbrev pub HasAll : List (List ℕ) → List (List ℕ) → Type 0
-HasAll set names = (name : List ℕ) → has_case set name ≡ has_case names name
-
 -- this case is the last that was started; false where none was
 abbrev pub is_last : Option (List ℕ) → List ℕ → Bool
 is_last last name = option_map_or (λ other. bytes_eq other name) last false

@@ -2,7 +2,6 @@
 #![tactic(auto)]
 
 mod lines;
-mod names;
 mod starts;
 mod table;
 

@@ -2,13 +2,13 @@
 
 ghost use Rattle.std.specs.Prelude.{◌≡◌, [], ◌∷◌, IfOk, OnOk};
 ghost use Rattle.test_spec.specs.Verdicts.{has_case, result_lines};
-ghost use Rattle.test_results.specs.Starts.{HasAll, Adds, is_last, no_sayings};
+ghost use Rattle.test_results.specs.Starts.{Adds, is_last, no_sayings};
 
 use crate::lines::{is_done_line, next_line, started_name};
-use crate::names::Names;
-use base::{NoMemory, TextList};
+use base::NoMemory;
 use std::alloc::Global;
 use std::marker::Model;
+use test_spec::Names;
 
 /// What some lines say of cases: which of these were started, which was the last, and whether all is done.
 #[derive(Drop)]
@@ -77,17 +77,6 @@ impl<'a> Said<'a> {
         }
         Ok(())
     }
-}
-
-/// The names of cases as a set.
-pub fn set_of<'a>(alloc: Global, cases: &'a TextList) -> Result<Names<'a>, NoMemory>
-    ensures { IfOk result (λ set. HasAll set cases.now) }
-{
-    let mut set = Names::new(alloc);
-    for name in cases.as_slice() {
-        set.add(name.bytes())?;
-    }
-    Ok(set)
 }
 
 /// What a results text says of some cases.

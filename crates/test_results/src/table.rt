@@ -4,7 +4,7 @@ ghost use Rattle.std.specs.Prelude.{◌≡◌, ◌==◌, ◌&&◌, ◌∷◌, []
 ghost use Rattle.test_spec.specs.Verdicts.{passed_if, verdicts};
 ghost use Rattle.test_results.specs.Starts.{verdict_by};
 
-use crate::starts::{Said, said_by, set_of};
+use crate::starts::{Said, said_by};
 use base::{MaybeText, NoMemory, TextList};
 use std::alloc::Global;
 use test_spec::{Verdict, VerdictList};

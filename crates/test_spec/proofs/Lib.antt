@@ -1,2 +1,3 @@
 -- The lemmas.
 pub mod BenchRuns
+pub mod NameSets

@@ -1,5 +1,5 @@
 -- The verdicts of test cases, by the code with which a simulator ended and the results text that it left.
-use Rattle.std.specs.Prelude.{ℕ, Bool, true, false, not, ◌&&◌, ◌==◌, if◌then◌else◌, List, [], ◌∷◌, codes, filter, length, map, take, drop, Option, Some, None}
+use Rattle.std.specs.Prelude.{◌≡◌, ℕ, Bool, true, false, not, ◌&&◌, ◌==◌, if◌then◌else◌, List, [], ◌∷◌, codes, filter, map, take, drop, Option, Some, None}
 use Rattle.std.specs.List.{filter_map, last_or, list_all, list_any, slice_split}
 use Rattle.std.specs.Option.{option_map_or}
 use Rattle.std.specs.Str.{bytes_eq}
@@ -37,6 +37,10 @@ says_done lines = list_any is_done_line lines
 -- a name is that of one of these cases
 abbrev pub has_case : List (List ℕ) → List ℕ → Bool
 has_case cases name = list_any (λ other. bytes_eq other name) cases
+
+-- a set has just these names
+abbrev pub HasAll : List (List ℕ) → List (List ℕ) → Type 0
+HasAll set names = (name : List ℕ) → has_case set name ≡ has_case names name
 
 -- the cases that lines start, in order; each other name is passed over
 abbrev pub case_starts : List (List ℕ) → List (List ℕ) → List (List ℕ)

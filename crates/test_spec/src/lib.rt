@@ -5,9 +5,11 @@
 mod ends;
 mod jobs;
 mod laws;
+mod names;
 mod runs;
 
 pub use ends::{RunEnd, RunList, SHOWN_LIMIT, TestEnd, Verdict, VerdictList};
 pub use jobs::BenchJob;
 pub use laws::laws_of_runs;
+pub use names::{Names, set_of};
 pub use runs::{TestRun, TestRunList};

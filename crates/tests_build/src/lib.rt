@@ -9,6 +9,7 @@ mod kept;
 mod objects;
 #[cfg(test)]
 mod parts;
+pub mod picks;
 #[cfg(test)]
 mod plain;
 #[cfg(test)]

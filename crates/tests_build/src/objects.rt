@@ -3,7 +3,8 @@
 ghost use Rattle.std.specs.Prelude.{◌≡◌, ◌≤◌, [], IsTrue, false};
 ghost use Rattle.base.specs.declared.limits.TheConstants.{SLOT_LIMIT};
 
-use crate::plain::{NEVER, Way, pick_of};
+use crate::picks::{pick_of, started_for};
+use crate::plain::{NEVER, Way};
 use crate::sets::has;
 use crate::shapes::{Project, file_at, file_of, given, graph_of, input_of, letter, word};
 use base::{
@@ -203,20 +204,10 @@ fn build_over(
 
 /// The file that a ticket was started for; 8 where it is none.
 fn started_file(events: &[Event], ticket: u64) -> u8 {
-    for event in events {
-        match event {
-            Event::Started {
-                ticket: other,
-                request,
-            } => {
-                if *other == ticket {
-                    return file_of(request.input.bytes());
-                }
-            }
-            Event::Ended { ticket: _, exit: _ } | Event::Gone { ticket: _ } => {}
-        }
+    match started_for(events, ticket) {
+        Some(request) => file_of(request.input.bytes()),
+        None => 8,
     }
-    8
 }
 
 /// An event as two letters.
@@ -293,19 +284,6 @@ fn tell(
     }
 }
 
-/// Builds over a disk, and tells.
-fn told_over(
-    rt: &impl Abort,
-    alloc: Global,
-    graph: &Graph,
-    disk: &mut MemDisk,
-    procs: &mut ScriptProcs,
-    way: &Way,
-) -> Result<Told, NoMemory> {
-    let end = build_over(rt, alloc, graph, disk, procs, way.limit, way.keep_going);
-    tell(alloc, graph, procs.journal().as_slice(), &end)
-}
-
 /// Builds a project over a disk, where files have these artefacts once they are made.
 pub(super) fn told_build(
     rt: &impl Abort,
@@ -317,7 +295,16 @@ pub(super) fn told_build(
 ) -> Result<Told, Fail> {
     let graph = graph_of(alloc, project)?;
     let mut procs = script(rt, alloc, project, made, way)?;
-    Ok(told_over(rt, alloc, &graph, disk, &mut procs, way)?)
+    let end = build_over(
+        rt,
+        alloc,
+        &graph,
+        disk,
+        &mut procs,
+        way.limit,
+        way.keep_going,
+    );
+    Ok(tell(alloc, &graph, procs.journal().as_slice(), &end)?)
 }
 
 /// The plan over a store as letters: fresh, stale, or to be checked later.

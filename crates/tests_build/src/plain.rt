@@ -2,6 +2,7 @@
 //! file that may be started while it may, and else takes an end.
 
 use crate::kept::{AllKept, current, keep};
+use crate::picks::take_child;
 use crate::sets::{has, with};
 use crate::shapes::{Project, deps_of, file_at, given};
 use base::NoMemory;
@@ -35,18 +36,6 @@ pub(super) fn steady_way(limit: u32, keep_going: bool, refused: u8, picks: u32) 
         failing: NEVER,
         failing_commit: NEVER,
     }
-}
-
-/// The place that a wait takes, of the first eight waits.
-pub(super) fn pick_of(picks: u32, wait: u32) -> u32 {
-    if wait >= 8 {
-        return 0;
-    }
-    let mut left = picks;
-    for _ in 0..wait {
-        left /= 16;
-    }
-    left % 16
 }
 
 /// What has happened: in the events `+0` is a start of file 0, `-0` its end, `!0` its refusal, `?0` its loss.
@@ -184,13 +173,9 @@ fn end(plain: &mut Plain, project: &Project, way: &Way, at: u8) -> Result<(), No
 
 /// Takes the child that the next wait takes; nothing where none runs.
 fn take(plain: &mut Plain, way: &Way) -> Option<u8> {
-    let count = plain.running.len();
-    if count == 0 {
-        return None;
-    }
-    let place = pick_of(way.picks, plain.waits) as usize % count;
+    let taken = take_child(&mut plain.running, way.picks, plain.waits)?;
     plain.waits = plain.waits.wrapping_add(1);
-    Some(plain.running.remove(place))
+    Some(taken)
 }
 
 /// One event, or nothing where the build has ended.

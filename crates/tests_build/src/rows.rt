@@ -178,41 +178,14 @@ fn is(told: &Told, wanted: &str) -> bool {
         && are(told.whole.as_slice(), word_at(wanted, 2))
 }
 
-/// Builds, and says whether it is as wanted, and as the plain build.
-fn builds(
-    rt: &impl Abort,
-    alloc: Global,
-    project: &Project,
-    plain: &Plain,
-    way: &Way,
-    wanted: &str,
-    disk: &mut MemDisk,
-) -> Result<bool, Fail> {
-    let told = told_build(rt, alloc, project, &plain.made, way, disk)?;
-    Ok(is(&told, wanted) && agree(alloc, &told, plain, project, way.keep_going)?)
-}
-
-/// Whether the marks alone are as wanted.
-fn marks(
-    rt: &impl Abort,
-    alloc: Global,
-    project: &Project,
-    plain: &Plain,
-    way: &Way,
-    wanted: &str,
-    disk: &mut MemDisk,
-) -> Result<bool, Fail> {
-    let told = told_build(rt, alloc, project, &plain.made, way, disk)?;
-    Ok(are(told.marks.as_slice(), wanted))
-}
-
 /// Whether the plan is as wanted.
 fn plans(alloc: Global, project: &Project, wanted: &str, disk: &mut MemDisk) -> Result<bool, Fail> {
     let told = told_plan(alloc, project, disk)?;
     Ok(are(told.as_slice(), wanted))
 }
 
-/// Whether a build of a row, by words before and after its sign, goes as it says; and the records after it.
+/// Whether a build of a row, by words before and after its sign, goes as it says, and as the plain build; after `=` the marks alone;
+/// and the records after it.
 fn goes(
     rt: &impl Abort,
     alloc: Global,
@@ -229,10 +202,11 @@ fn goes(
     }
     let plain = plain_build(alloc, &project, kept, &way)?;
     *kept = plain.kept;
+    let told = told_build(rt, alloc, &project, &plain.made, &way, disk)?;
     if sign == b'=' {
-        return marks(rt, alloc, &project, &plain, &way, wanted, disk);
+        return Ok(are(told.marks.as_slice(), wanted));
     }
-    builds(rt, alloc, &project, &plain, &way, wanted, disk)
+    Ok(is(&told, wanted) && agree(alloc, &told, &plain, &project, way.keep_going)?)
 }
 
 /// The same of a build as it is in its row.
@@ -275,8 +249,7 @@ fn passes(rt: &impl Abort, alloc: Global, row: &str) -> Result<bool, Fail> {
 #[test]
 fn small_projects_are_built_as_by_hand(rt: HostRuntime) -> Result<(), Fail> {
     for row in ROWS.lines() {
-        let passed = passes(&rt, rt.alloc(), row)?;
-        assert!(rt; passed, "{row}");
+        assert!(rt; passes(&rt, rt.alloc(), row)?, "{row}");
     }
     Ok(())
 }

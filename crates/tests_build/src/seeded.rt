@@ -3,6 +3,7 @@
 use crate::compare::{build_alike, plain_marks};
 use crate::kept::{AllKept, none_kept};
 use crate::objects::empty_disk;
+use crate::picks::{byte, mixed};
 use crate::plain::{NEVER, Plain, Way, late_fresh, plain_build, steady_way};
 use crate::sets::{has, upto};
 use crate::shapes::{Project, Shape, files_of, first};
@@ -14,21 +15,6 @@ use std::test::Fail;
 
 /// How many random rows there are.
 const ROWS: u32 = 200;
-
-/// A number of a seed, of which the low bits are thrown away.
-fn mixed(seed: u32, turn: u32) -> u32 {
-    let mut x = seed.wrapping_mul(0x9e37_79b1) ^ turn.wrapping_mul(0x85eb_ca77);
-    for _ in 0..3 {
-        x ^= x / 32_768;
-        x = x.wrapping_mul(0x2c1b_3c6d);
-        x ^= x / 4_096;
-    }
-    x
-}
-
-fn byte(seed: u32, turn: u32) -> u8 {
-    (mixed(seed, turn) % 256) as u8
-}
 
 /// Few of the files.
 fn few(seed: u32, turn: u32) -> u8 {

@@ -7,14 +7,13 @@ ghost use Rattle.store_journal.specs.Journals.{IsInStep};
 ghost use Rattle.memory_outside.specs.Disks.{moments_of};
 ghost use Rattle.outside.specs.Disks.{reads_of};
 
-use crate::journals::{are, disk};
+use crate::journals::are;
+use crate::trials::{Trial, empty_disk, fails_all, goes};
 use memory_outside::MemDisk;
 use outside::{Side, StoreFault, write_durably};
 use std::alloc::Global;
 use std::test::Fail;
 use store_journal::{FoundForm, Journal, Opened, Payloads};
-
-const LONG: u64 = (1 << 63) - 1;
 
 pub const OLDER: u8 = 2;
 
@@ -57,8 +56,6 @@ static NEW_EMPTY: [u8; 19] = [
 
 /// The numbers of the disk calls: writing a side takes 2, and opening one 7.
 const OPENING: u64 = 2;
-
-const CHANGING: u64 = 9;
 
 const EMPTYING: u64 = 4;
 
@@ -120,7 +117,7 @@ fn finds(
     letter: u8,
     left: [&[u8]; 2],
 ) -> Result<bool, StoreFault> {
-    let mut disk = disk(alloc, &[])?;
+    let mut disk = empty_disk(alloc, &[])?;
     finds_on(alloc, &mut disk, sides, letter, left)
 }
 
@@ -200,112 +197,35 @@ fn changes_ab(alloc: Global, disk: &mut MemDisk) -> Result<bool, StoreFault> {
     )
 }
 
-/// Whether an image of a moment has what a letter stands for.
-fn leaves_image(
-    alloc: Global,
-    disk: &MemDisk,
-    moment: u64,
-    length: u64,
-    fill: u8,
-    letter: u8,
-) -> Result<bool, StoreFault> {
-    let mut image = disk.crash(alloc, moment, length, fill)?;
-    Ok(find(alloc, &mut image)? == letter)
-}
+/// The newer form takes the place of the older one.
+struct ChangesForm;
 
-/// Whether each image of a moment has it: of a first letter where its free bytes are 1, and of a second one where they are
-/// others.
-fn leaves(
-    alloc: Global,
-    disk: &MemDisk,
-    moment: u64,
-    ones: u8,
-    others: u8,
-) -> Result<bool, StoreFault> {
-    for fill in [1, 0, 255] {
-        let letter = if fill == 1 { ones } else { others };
-        if !leaves_image(alloc, disk, moment, 0, fill, letter)?
-            || !leaves_image(alloc, disk, moment, LONG, fill, letter)?
-        {
-            return Ok(false);
-        }
+impl Trial for ChangesForm {
+    fn goes(&self, alloc: Global, disk: &mut MemDisk) -> Result<bool, StoreFault> {
+        changes_ab(alloc, disk)
     }
-    Ok(true)
-}
 
-/// From the first call that changes the form on: inside of the last write, and of its sync, the first byte may be 1.
-static CHANGED: [(u8, u8); 9] = [
-    (b'o', b'o'),
-    (b'o', b'o'),
-    (b'o', b'o'),
-    (b'o', b'o'),
-    (b'o', b'o'),
-    (b'o', b'o'),
-    (b'n', b'o'),
-    (b'n', b'o'),
-    (b'n', b'n'),
-];
-
-/// Whether a stop at each moment leaves what the table says.
-fn leaves_all(alloc: Global, disk: &mut MemDisk) -> Result<bool, StoreFault> {
-    if !changes_ab(alloc, disk)? {
-        return Ok(false);
+    fn holds(&self, alloc: Global, disk: &mut MemDisk, letter: u8) -> Result<bool, StoreFault> {
+        Ok(find(alloc, disk)? == letter)
     }
-    let mut moment = CHANGING;
-    for row in CHANGED {
-        if !leaves(alloc, disk, moment, row.0, row.1)? {
-            return Ok(false);
-        }
-        moment = moment.saturating_add(1);
-    }
-    Ok(true)
 }
 
-fn leaves_either(alloc: Global) -> Result<bool, StoreFault> {
-    let mut disk = disk(alloc, &[])?;
-    leaves_all(alloc, &mut disk)
-}
+/// From the first call of opening on, of which 7 come before the change: inside of its last write, and of its sync, the first byte
+/// may be 1.
+static CHANGED: &str = "ooooooooooooonnn\nooooooooooooooon";
 
 #[test]
-fn a_stop_inside_a_change_of_form_leaves_either(rt: HostRuntime) -> Result<(), Fail> {
-    assert!(rt; leaves_either(rt.alloc())?);
+fn a_stop_or_fault_inside_a_change_of_form_leaves_either(rt: HostRuntime) -> Result<(), Fail> {
+    assert!(rt; goes(rt.alloc(), &ChangesForm, OPENING, CHANGED)?);
+    assert!(rt; fails_all(rt.alloc(), &ChangesForm, OPENING, CHANGED)?);
     Ok(())
 }
 
-/// Whether a change is answered by a fault of the disk.
-fn is_refused(alloc: Global, disk: &mut MemDisk) -> bool {
-    let answer = changes_ab(alloc, disk);
-    matches!(answer, Err(StoreFault::DiskFailed))
-}
-
-/// Whether a call that fails is answered, and leaves what a stop inside of it can.
-fn fails(alloc: Global, call: u64, ones: u8) -> Result<bool, StoreFault> {
-    let mut disk = disk(alloc, &[call])?;
-    let is_fault = is_refused(alloc, &mut disk);
-    Ok(is_fault && leaves(alloc, &disk, call.saturating_add(1), ones, b'o')?)
-}
-
-/// What a failing call may leave where free bytes are 1, from the first call of opening on.
-static FAILING: [u8; 15] = [
-    b'o', b'o', b'o', b'o', b'o', b'o', b'o', b'o', b'o', b'o', b'o', b'o', b'o', b'n', b'n',
-];
-
-/// The same of each call.
-fn fails_each(alloc: Global) -> Result<bool, StoreFault> {
-    let mut call = OPENING;
-    for ones in FAILING {
-        if !fails(alloc, call, ones)? {
-            return Ok(false);
-        }
-        call = call.saturating_add(1);
-    }
-    Ok(true)
-}
-
-#[test]
-fn each_disk_call_of_a_change_of_form_may_fail(rt: HostRuntime) -> Result<(), Fail> {
-    assert!(rt; fails_each(rt.alloc())?);
-    Ok(())
+/// A disk of two sides is emptied, which leaves two others, and a journal of the newer form.
+#[derive(Drop)]
+struct Empties {
+    sides: [&'static [u8]; 2],
+    left: [&'static [u8]; 2],
 }
 
 /// Whether emptying a disk of two sides leaves these, and a journal of the newer form.
@@ -321,91 +241,54 @@ fn empties_on(
     Ok(journal.form() == NEWER && disk.reads(Side::A) == left[0] && disk.reads(Side::B) == left[1])
 }
 
-/// What a stop may leave inside of a call that empties a disk, from the first one on, where free bytes are 1 and where they
-/// are others: 6 calls sync both sides and read how they begin, 2 cut the side that doesn't count, 2 make the other one dead,
-/// whose first byte may be any meanwhile, and 8 make it.
-fn letters_in(call: u64, letter: u8) -> (u8, u8) {
-    if call < 8 {
-        return (letter, letter);
+impl Trial for Empties {
+    fn goes(&self, alloc: Global, disk: &mut MemDisk) -> Result<bool, StoreFault> {
+        empties_on(alloc, disk, self.sides, self.left)
     }
-    if call < 10 {
-        return (letter, b'-');
+
+    fn holds(&self, alloc: Global, disk: &mut MemDisk, letter: u8) -> Result<bool, StoreFault> {
+        Ok(find(alloc, disk)? == letter)
     }
-    (b'-', b'-')
 }
 
-/// Whether a stop at each moment leaves what counted, as a letter, or none.
-fn leaves_or_none(alloc: Global, disk: &MemDisk, letter: u8) -> Result<bool, StoreFault> {
-    for call in 0..19 {
-        let (ones, others) = letters_in(call, letter);
-        if !leaves(alloc, disk, EMPTYING.saturating_add(call), ones, others)? {
-            return Ok(false);
-        }
-    }
-    Ok(true)
-}
+/// What a stop may leave inside of a call that empties a disk, from the first one on: 6 calls sync both sides and read how they
+/// begin, 2 cut the side that doesn't count, 2 make the other one dead, whose first byte may be any meanwhile, and 8 make it.
+static EMPTYING_OLDER: &str = "cccccccccc---------\ncccccccc-----------";
 
-/// Whether emptying a disk of two sides leaves these, and a stop at each moment what counted, or none.
-fn empties(
+static EMPTYING_NEWER: &str = "nnnnnnnnnn---------\nnnnnnnnn-----------";
+
+/// Whether emptying a disk of two sides leaves these, and a stop at each moment what counted, as a letter, or none.
+fn leaves_empty(
     alloc: Global,
-    sides: [&[u8]; 2],
+    sides: [&'static [u8]; 2],
+    left: [&'static [u8]; 2],
     letter: u8,
-    left: [&[u8]; 2],
 ) -> Result<bool, StoreFault> {
-    let mut disk = disk(alloc, &[])?;
-    Ok(empties_on(alloc, &mut disk, sides, left)? && leaves_or_none(alloc, &disk, letter)?)
+    let table = if letter == b'c' {
+        EMPTYING_OLDER
+    } else {
+        EMPTYING_NEWER
+    };
+    goes(alloc, &Empties { sides, left }, EMPTYING, table)
 }
 
 #[test]
-fn a_stop_while_the_older_form_is_emptied_leaves_what_counted_or_none(
+fn a_stop_while_either_form_is_emptied_leaves_what_counted_or_none(
     rt: HostRuntime,
 ) -> Result<(), Fail> {
-    assert!(rt; empties(rt.alloc(), [&OLD_AB, &OLD_CD], b'c', [&[], &NEW_EMPTY])?);
-    assert!(rt; empties(rt.alloc(), [&OLD_CD, &OLD_AB], b'c', [&NEW_EMPTY, &[]])?);
+    assert!(rt; leaves_empty(rt.alloc(), [&OLD_AB, &OLD_CD], [&[], &NEW_EMPTY], b'c')?);
+    assert!(rt; leaves_empty(rt.alloc(), [&OLD_CD, &OLD_AB], [&NEW_EMPTY, &[]], b'c')?);
+    assert!(rt; leaves_empty(rt.alloc(), [&OLD_AB, &NEW_CD], [&[], &NEW_EMPTY], b'n')?);
+    assert!(rt; leaves_empty(rt.alloc(), [&NEW_CD, &OPEN_AB], [&NEW_EMPTY, &[]], b'n')?);
     Ok(())
-}
-
-#[test]
-fn a_stop_while_the_newer_form_is_emptied_leaves_what_counted_or_none(
-    rt: HostRuntime,
-) -> Result<(), Fail> {
-    assert!(rt; empties(rt.alloc(), [&OLD_AB, &NEW_CD], b'n', [&[], &NEW_EMPTY])?);
-    assert!(rt; empties(rt.alloc(), [&NEW_CD, &OPEN_AB], b'n', [&NEW_EMPTY, &[]])?);
-    Ok(())
-}
-
-/// Whether emptying is answered by a fault of the disk.
-fn is_kept(alloc: Global, disk: &mut MemDisk, sides: [&[u8]; 2]) -> bool {
-    let answer = empties_on(alloc, disk, sides, sides);
-    matches!(answer, Err(StoreFault::DiskFailed))
-}
-
-/// Whether a call that fails is answered, and leaves what a stop inside of it can.
-fn empties_fails(
-    alloc: Global,
-    sides: [&[u8]; 2],
-    call: u64,
-    ones: u8,
-    others: u8,
-) -> Result<bool, StoreFault> {
-    let mut disk = disk(alloc, &[call])?;
-    let is_fault = is_kept(alloc, &mut disk, sides);
-    Ok(is_fault && leaves(alloc, &disk, call.saturating_add(1), ones, others)?)
-}
-
-/// The same of each call.
-fn empties_fails_each(alloc: Global, sides: [&[u8]; 2], letter: u8) -> Result<bool, StoreFault> {
-    for call in 0..18 {
-        let (ones, others) = letters_in(call, letter);
-        if !empties_fails(alloc, sides, EMPTYING.saturating_add(call), ones, others)? {
-            return Ok(false);
-        }
-    }
-    Ok(true)
 }
 
 #[test]
 fn each_disk_call_that_empties_the_older_form_may_fail(rt: HostRuntime) -> Result<(), Fail> {
-    assert!(rt; empties_fails_each(rt.alloc(), [&OLD_AB, &OLD_CD], b'c')?);
+    let trial = Empties {
+        sides: [&OLD_AB, &OLD_CD],
+        left: [&[], &NEW_EMPTY],
+    };
+    assert!(rt; fails_all(rt.alloc(), &trial, EMPTYING, EMPTYING_OLDER)?);
     Ok(())
 }

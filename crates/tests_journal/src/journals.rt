@@ -4,14 +4,13 @@ ghost use Rattle.std.specs.Prelude.{◌≡◌, false, IfOk};
 ghost use Rattle.store_journal.specs.Journals.{IsInStep};
 ghost use Rattle.memory_outside.specs.Disks.{moments_of};
 
-use base::{Items, NoMemory, Numbers};
+use crate::trials::{LONG, Trial, empty_disk, fails_all, goes};
+use base::NoMemory;
 use memory_outside::MemDisk;
 use outside::{Side, StoreFault, write_durably};
 use std::alloc::Global;
 use std::test::Fail;
 use store_journal::{Journal, Opened, Payloads};
-
-const LONG: u64 = (1 << 63) - 1;
 
 /// A side of form 1 and generation 1 without payloads.
 static EMPTY: [u8; 19] = [
@@ -35,11 +34,6 @@ const COMMIT: u64 = 14;
 
 const NEXT: u64 = 18;
 
-pub fn disk(alloc: Global, failing: &[u64]) -> Result<MemDisk, NoMemory> {
-    let failing: Numbers = Items::from_vec(Vec::from_slice(alloc, failing)?);
-    Ok(MemDisk::new(alloc, failing))
-}
-
 /// Whether the payloads are those of a letter: `a` is `ab` alone, `c` is `cd` alone, and `-` none.
 pub fn are(payloads: &Payloads, letter: u8) -> bool {
     match letter {
@@ -53,74 +47,6 @@ pub fn are(payloads: &Payloads, letter: u8) -> bool {
 fn holds(alloc: Global, disk: &mut MemDisk, letter: u8) -> Result<bool, StoreFault> {
     let Opened { payloads, .. } = Journal::from_disk(alloc, disk, 1, Payloads::new(alloc))?;
     Ok(are(&payloads, letter))
-}
-
-/// Whether an image of a moment has the payloads of a letter.
-fn leaves_image(
-    alloc: Global,
-    disk: &MemDisk,
-    moment: u64,
-    length: u64,
-    fill: u8,
-    letter: u8,
-) -> Result<bool, StoreFault> {
-    let mut image = disk.crash(alloc, moment, length, fill)?;
-    holds(alloc, &mut image, letter)
-}
-
-/// Whether each image of a moment has the payloads of a letter: of a first one where its free bytes are 1, and of a second
-/// one where they are others.
-fn leaves(
-    alloc: Global,
-    disk: &MemDisk,
-    moment: u64,
-    ones: u8,
-    others: u8,
-) -> Result<bool, StoreFault> {
-    for fill in [1, 0, 255] {
-        let letter = if fill == 1 { ones } else { others };
-        if !leaves_image(alloc, disk, moment, 0, fill, letter)?
-            || !leaves_image(alloc, disk, moment, LONG, fill, letter)?
-        {
-            return Ok(false);
-        }
-    }
-    Ok(true)
-}
-
-/// The same of moments from the first one on, with a letter for each in either list.
-fn leaves_each(
-    alloc: Global,
-    disk: &MemDisk,
-    first: u64,
-    ones: &[u8],
-    others: &[u8],
-) -> Result<bool, StoreFault> {
-    if ones.len() != others.len() {
-        return Ok(false);
-    }
-    for i in 0..ones.len() {
-        if !leaves(
-            alloc,
-            disk,
-            first.saturating_add(i as u64),
-            ones[i],
-            others[i],
-        )? {
-            return Ok(false);
-        }
-    }
-    Ok(true)
-}
-
-/// The same of a table: a line of letters for images whose free bytes are 1, and a line for all others.
-fn leaves_all(alloc: Global, disk: &MemDisk, first: u64, table: &str) -> Result<bool, StoreFault> {
-    match table.split_once('\n') {
-        Some((ones, others)) => {
-            leaves_each(alloc, disk, first, ones.as_bytes(), others.as_bytes())
-        }
-        None => Ok(false),
-    }
 }
 
 /// A journal with the payload `ab`.
@@ -216,15 +142,40 @@ fn changes(alloc: Global, disk: &mut MemDisk, change: Change) -> Result<bool, St
     Ok(make(alloc, disk, change)? && has_sides(disk, change))
 }
 
-/// Whether a change leaves its sides, and a stop the payloads of a table, from a moment on.
-fn goes(alloc: Global, change: Change, first: u64, table: &str) -> Result<bool, StoreFault> {
-    let mut disk = disk(alloc, &[])?;
-    Ok(changes(alloc, &mut disk, change)? && leaves_all(alloc, &disk, first, table)?)
+impl Trial for Change {
+    fn goes(&self, alloc: Global, disk: &mut MemDisk) -> Result<bool, StoreFault> {
+        changes(alloc, disk, *self)
+    }
+
+    fn holds(&self, alloc: Global, disk: &mut MemDisk, letter: u8) -> Result<bool, StoreFault> {
+        holds(alloc, disk, letter)
+    }
 }
 
+/// A change, and what a stop or a fault inside of each call leaves, from a call on. After the third call of a commit its gate may be open. Of the
+/// calls that empty a disk 6 sync both sides and read how they begin; then B is cut, A made dead, and A is made, two calls for
+/// each write or cut. While A is made dead its first byte may be any.
+static CHANGES: [(Change, u64, &'static str); 4] = [
+    (Change::Opens, 0, "\n"),
+    (
+        Change::Commits,
+        0,
+        "----------------aaa\n------------------a",
+    ),
+    (Change::Replaces, NEXT, "aaaaaaccc\naaaaaaaac"),
+    (
+        Change::Empties,
+        NEXT,
+        "aaaaaaaaaa---------\naaaaaaaa-----------",
+    ),
+];
+
 #[test]
-fn opening_makes_a_side(rt: HostRuntime) -> Result<(), Fail> {
-    assert!(rt; goes(rt.alloc(), Change::Opens, 0, "\n")?);
+fn a_stop_or_fault_inside_a_change_leaves_either_list(rt: HostRuntime) -> Result<(), Fail> {
+    for (change, first, table) in CHANGES {
+        assert!(rt; goes(rt.alloc(), &change, first, table)?, "{table}");
+        assert!(rt; fails_all(rt.alloc(), &change, first, table)?, "{table}");
+    }
     Ok(())
 }
 
@@ -237,7 +188,7 @@ fn stays_on(alloc: Global, disk: &mut MemDisk, a: &[u8], b: &[u8]) -> Result<boo
 }
 
 fn stays(alloc: Global, a: &[u8], b: &[u8]) -> Result<bool, StoreFault> {
-    let mut disk = disk(alloc, &[])?;
+    let mut disk = empty_disk(alloc, &[])?;
     stays_on(alloc, &mut disk, a, b)
 }
 
@@ -264,7 +215,7 @@ fn empties_on(
 }
 
 fn empties(alloc: Global, sides: [&[u8]; 2], left: [&[u8]; 2]) -> Result<bool, StoreFault> {
-    let mut disk = disk(alloc, &[])?;
+    let mut disk = empty_disk(alloc, &[])?;
     empties_on(alloc, &mut disk, sides, left)
 }
 
@@ -274,21 +225,6 @@ fn an_emptied_disk_has_the_side_that_counted_or_a(rt: HostRuntime) -> Result<(),
     assert!(rt; empties(rt.alloc(), [&WITH_AB, &WITH_CD], [&[], &EMPTY])?);
     assert!(rt; empties(rt.alloc(), [&[0; 30], &WITH_AB], [&[], &EMPTY])?);
     assert!(rt; empties(rt.alloc(), [&[7; 30], &[9; 40]], [&EMPTY, &[]])?);
-    Ok(())
-}
-
-#[test]
-fn a_commit_writes_the_payload_and_its_gate(rt: HostRuntime) -> Result<(), Fail> {
-    assert!(rt; goes(rt.alloc(), Change::Commits, 0, "\n")?);
-    Ok(())
-}
-
-/// From the first call on: after the third call of the commit its gate may be open.
-static COMMITTING: &str = "----------------aaa\n------------------a";
-
-#[test]
-fn a_stop_inside_a_commit_leaves_its_payload_or_none(rt: HostRuntime) -> Result<(), Fail> {
-    assert!(rt; goes(rt.alloc(), Change::Commits, 0, COMMITTING)?);
     Ok(())
 }
 
@@ -309,7 +245,7 @@ fn begins_so(alloc: Global, disk: &MemDisk) -> Result<bool, NoMemory> {
 }
 
 fn stays_until_synced(alloc: Global) -> Result<bool, StoreFault> {
-    let mut disk = disk(alloc, &[])?;
+    let mut disk = empty_disk(alloc, &[])?;
     Ok(commits(alloc, &mut disk)? && begins_so(alloc, &disk)?)
 }
 
@@ -319,100 +255,9 @@ fn a_stop_before_the_first_sync_leaves_the_side_as_it_was(rt: HostRuntime) -> Re
     Ok(())
 }
 
-/// From the call after the commit on.
-static REPLACING: &str = "aaaaaaccc\naaaaaaaac";
-
-#[test]
-fn a_stop_inside_a_replacement_leaves_either_list(rt: HostRuntime) -> Result<(), Fail> {
-    assert!(rt; goes(rt.alloc(), Change::Replaces, NEXT, REPLACING)?);
-    Ok(())
-}
-
-/// From the call after the commit on: 6 calls sync both sides and read how they begin; then B is cut, A made dead, and A is
-/// made, two calls for each write or cut. While A is made dead its first byte may be any.
-static EMPTYING: &str = "aaaaaaaaaa---------\naaaaaaaa-----------";
-
-#[test]
-fn a_stop_while_a_disk_is_emptied_leaves_the_list_or_none(rt: HostRuntime) -> Result<(), Fail> {
-    assert!(rt; goes(rt.alloc(), Change::Empties, NEXT, EMPTYING)?);
-    Ok(())
-}
-
-/// Whether a change is answered by a fault of the disk.
-fn is_refused(alloc: Global, disk: &mut MemDisk, change: Change) -> bool {
-    let answer = make(alloc, disk, change);
-    matches!(answer, Err(StoreFault::DiskFailed))
-}
-
-/// Whether a call that fails is answered, and leaves what a stop inside of it can.
-fn fails(
-    alloc: Global,
-    change: Change,
-    call: u64,
-    ones: u8,
-    others: u8,
-) -> Result<bool, StoreFault> {
-    let mut disk = disk(alloc, &[call])?;
-    let is_fault = is_refused(alloc, &mut disk, change);
-    Ok(is_fault && leaves(alloc, &disk, call.saturating_add(1), ones, others)?)
-}
-
-/// The same of each call from the first one on.
-fn fails_each(
-    alloc: Global,
-    change: Change,
-    first: u64,
-    ones: &[u8],
-    others: &[u8],
-) -> Result<bool, StoreFault> {
-    if ones.len() != others.len() {
-        return Ok(false);
-    }
-    for i in 0..ones.len() {
-        if !fails(
-            alloc,
-            change,
-            first.saturating_add(i as u64),
-            ones[i],
-            others[i],
-        )? {
-            return Ok(false);
-        }
-    }
-    Ok(true)
-}
-
-/// The same of a table.
-fn fails_all(alloc: Global, change: Change, first: u64, table: &str) -> Result<bool, StoreFault> {
-    match table.split_once('\n') {
-        Some((ones, others)) => {
-            fails_each(alloc, change, first, ones.as_bytes(), others.as_bytes())
-        }
-        None => Ok(false),
-    }
-}
-
-/// From the first call on.
-static FAILING: &str = "----------------aaaaaaaacc\n------------------aaaaaaaa";
-
-#[test]
-fn each_disk_call_may_fail(rt: HostRuntime) -> Result<(), Fail> {
-    assert!(rt; fails_all(rt.alloc(), Change::Replaces, 0, FAILING)?);
-    Ok(())
-}
-
-/// From the call after the commit on.
-static FAILING_IN_EMPTYING: &str = "aaaaaaaaaa--------\naaaaaaaa----------";
-
-#[test]
-fn each_disk_call_that_empties_a_disk_may_fail(rt: HostRuntime) -> Result<(), Fail> {
-    assert!(rt; fails_all(rt.alloc(), Change::Empties, NEXT, FAILING_IN_EMPTYING)?);
-    Ok(())
-}
-
 /// Whether a disk whose side A has these bytes has the payloads of a letter.
 fn side_holds(alloc: Global, bytes: &[u8], letter: u8) -> Result<bool, StoreFault> {
-    let mut disk = disk(alloc, &[])?;
+    let mut disk = empty_disk(alloc, &[])?;
     write_durably(&mut disk, Side::A, 0, bytes)?;
     holds(alloc, &mut disk, letter)
 }

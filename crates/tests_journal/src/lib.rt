@@ -8,10 +8,13 @@ mod forms;
 #[cfg(test)]
 mod journals;
 #[cfg(test)]
+mod lines;
+#[cfg(test)]
 mod objects;
 #[cfg(test)]
 mod reports;
 #[cfg(test)]
 mod takers;
+pub mod trials;
 #[cfg(test)]
 mod windows;

@@ -3,7 +3,8 @@
 ghost use Rattle.std.specs.Prelude.{◌≡◌, [], unwrap_or, IfOk};
 
 use crate::forms::{NEW_CD, NEWER, OLD_AB, OLDER};
-use crate::journals::{are, disk};
+use crate::journals::are;
+use crate::trials::empty_disk;
 use crate::windows::{is_payload, put_bytes, side_of};
 use base::{NoMemory, Text};
 use memory_outside::MemDisk;
@@ -94,7 +95,7 @@ fn keeps_on(
     known: &[u8],
     kept: &[Option<u32>],
 ) -> Result<bool, StoreFault> {
-    let mut disk = disk(alloc, &[])?;
+    let mut disk = empty_disk(alloc, &[])?;
     write_durably(&mut disk, Side::A, 0, side)?;
     keeps(alloc, &mut disk, known, kept)
 }
@@ -170,7 +171,7 @@ fn find(alloc: Global, disk: &mut MemDisk) -> Result<u8, StoreFault> {
 
 /// Whether opening a disk of two sides finds this.
 fn finds(alloc: Global, a: &[u8], b: &[u8], letter: u8) -> Result<bool, StoreFault> {
-    let mut disk = disk(alloc, &[])?;
+    let mut disk = empty_disk(alloc, &[])?;
     write_durably(&mut disk, Side::A, 0, a)?;
     write_durably(&mut disk, Side::B, 0, b)?;
     Ok(find(alloc, &mut disk)? == letter)

@@ -1,6 +1,6 @@
 //! Tests of how a long side is read: payloads that end where what is read at once does, just before or after it, and longer ones.
 
-use crate::journals::disk;
+use crate::trials::empty_disk;
 use base::NoMemory;
 use memory_outside::MemDisk;
 use outside::{Side, StoreFault, write_durably};
@@ -95,7 +95,7 @@ fn finds(
 
 /// The same of an empty disk.
 fn finds_on(alloc: Global, side: &[u8], lengths: &[u32], whole: usize) -> Result<bool, StoreFault> {
-    let mut disk = disk(alloc, &[])?;
+    let mut disk = empty_disk(alloc, &[])?;
     finds(alloc, &mut disk, side, lengths, whole)
 }
 

@@ -20,10 +20,14 @@ fn name(alloc: Global, library: &[u8], path: &[u8]) -> Result<FileName, NoMemory
     })
 }
 
-/// The project of the files `tb.vhd` and `cases.vhd` of `lib`.
-fn project(alloc: Global) -> Result<Project, NoMemory> {
+/// A project of files of `lib`, which may be listed.
+pub(super) fn project_of(
+    alloc: Global,
+    paths: &[&'static str],
+    listed: bool,
+) -> Result<Project, NoMemory> {
     let mut files = ProjectFileList::new(alloc);
-    for path in ["tb.vhd", "cases.vhd"] {
+    for path in paths {
         files.push(ProjectFile {
             name: name(alloc, b"lib", path.as_bytes())?,
             command: TextList::new(alloc),
@@ -35,7 +39,7 @@ fn project(alloc: Global) -> Result<Project, NoMemory> {
         external: TextList::new(alloc),
         bodies: false,
         depends: PairList::new(alloc),
-        listed: true,
+        listed,
     })
 }
 
@@ -96,7 +100,7 @@ fn is_listed_as(alloc: Global, tests: &Tests, wanted: &str) -> Result<bool, NoMe
 
 fn is_exported_as(alloc: Global, tests: &Tests, wanted: &[u8]) -> Result<bool, Fail> {
     let graph = one_file(alloc)?;
-    let project = project(alloc)?;
+    let project = project_of(alloc, &["tb.vhd", "cases.vhd"], true)?;
     Ok(export_json(alloc, &graph, &project, tests)?.bytes() == wanted)
 }
 

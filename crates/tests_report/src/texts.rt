@@ -2,6 +2,7 @@
 
 ghost use Rattle.std.specs.Prelude.{◌≡◌, length};
 
+use crate::lists::project_of;
 use base::{
     FileList, FileName, Graph, LexFault, NoMemory, PairList, Project, ProjectFault, ProjectFile,
     ProjectFileList, Text, TextList, Warning, WarningList,
@@ -245,23 +246,6 @@ fn a_limit_is_said(rt: HostRuntime) -> Result<(), Fail> {
     Ok(())
 }
 
-/// A project of one file.
-fn project(alloc: Global) -> Result<Project, NoMemory> {
-    let mut files = ProjectFileList::new(alloc);
-    files.push(ProjectFile {
-        name: name(alloc, b"a.vhd")?,
-        command: TextList::new(alloc),
-    })?;
-    Ok(Project {
-        files,
-        simulator: TextList::new(alloc),
-        external: TextList::new(alloc),
-        bodies: false,
-        depends: PairList::new(alloc),
-        listed: false,
-    })
-}
-
 /// The text of one warning about the first file.
 fn warned(alloc: Global, library: &[u8]) -> Result<Text, NoMemory> {
     let mut warnings = WarningList::new(alloc);
@@ -269,7 +253,7 @@ fn warned(alloc: Global, library: &[u8]) -> Result<Text, NoMemory> {
         file: 0,
         library: text(alloc, library)?,
     })?;
-    warning_text(alloc, &project(alloc)?, &warnings)
+    warning_text(alloc, &project_of(alloc, &["a.vhd"], false)?, &warnings)
 }
 
 #[test]

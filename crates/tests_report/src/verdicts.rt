@@ -217,37 +217,23 @@ fn said(alloc: Global, words: &str, runs: &str) -> Result<Text, NoMemory> {
 }
 
 /// Whether it is what a row wants.
-fn is_said(alloc: Global, words: &str, runs: &str, wanted: &str) -> Result<bool, NoMemory> {
-    let text = said(alloc, words, runs)?;
-    is_wanted(alloc, &text, wanted)
-}
-
-#[test]
-fn ends_are_said(rt: HostRuntime) -> Result<(), Fail> {
-    for row in ENDS.lines() {
-        let runs = part(row, '|', 1);
-        assert!(rt;
-            is_said(rt.alloc(), part(row, '|', 0), runs, part(row, '|', 2))?,
-            "{row}"
-        );
-    }
-    Ok(())
+fn is_said(alloc: Global, row: &str) -> Result<bool, NoMemory> {
+    let text = said(alloc, part(row, '|', 0), part(row, '|', 1))?;
+    is_wanted(alloc, &text, part(row, '|', 2))
 }
 
 /// Whether runs are answered as a row wants it.
-fn is_answered(alloc: Global, words: &str, runs: &str, answer: &str) -> Result<bool, NoMemory> {
-    let end = ends_of(alloc, runs)?;
-    Ok(letter(&tests_outcome(&end, has(words, b'0'))) == answer)
+fn is_answered(alloc: Global, row: &str) -> Result<bool, NoMemory> {
+    let end = ends_of(alloc, part(row, '|', 1))?;
+    let answer = letter(&tests_outcome(&end, has(part(row, '|', 0), b'0')));
+    Ok(answer == part(row, '|', 3))
 }
 
 #[test]
-fn ends_are_answered(rt: HostRuntime) -> Result<(), Fail> {
+fn ends_are_said_and_answered(rt: HostRuntime) -> Result<(), Fail> {
     for row in ENDS.lines() {
-        let runs = part(row, '|', 1);
-        assert!(rt;
-            is_answered(rt.alloc(), part(row, '|', 0), runs, part(row, '|', 3))?,
-            "{row}"
-        );
+        assert!(rt; is_said(rt.alloc(), row)?, "{row}");
+        assert!(rt; is_answered(rt.alloc(), row)?, "{row}");
     }
     Ok(())
 }

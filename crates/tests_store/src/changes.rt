@@ -7,20 +7,15 @@ ghost use Rattle.store_holdings.specs.Held.{latest_held};
 ghost use Rattle.outside.specs.Records.{HasLatest};
 ghost use Rattle.store_requests.specs.Stored.{IsOver, IsRequestStoreInStep};
 
-use base::{ARTEFACT_LIMIT, FileName, Graph, Items, NoMemory, Numbers, Text};
+use base::{ARTEFACT_LIMIT, FileName, Graph, NoMemory, Text};
 use memory_outside::MemDisk;
 use outside::{Disk, Side, StoreFault, write_durably};
 use std::alloc::Global;
 use store_requests::RequestStore;
 use tests_graphs::{Record, read_record};
+use tests_journal::trials::empty_disk;
 
-/// A disk of which these calls fail.
-pub(super) fn empty_disk(alloc: Global, failing: &[u64]) -> Result<MemDisk, NoMemory> {
-    let failing: Numbers = Items::from_vec(Vec::from_slice(alloc, failing)?);
-    Ok(MemDisk::new(alloc, failing))
-}
-
-/// The same, and its side A has these bytes, which takes two calls.
+/// A disk of which these calls fail, and whose side A has these bytes, which takes two calls.
 pub(super) fn disk_of(alloc: Global, failing: &[u64], bytes: &[u8]) -> Result<MemDisk, StoreFault> {
     let mut disk = empty_disk(alloc, failing)?;
     write_durably(&mut disk, Side::A, 0, bytes)?;

@@ -2,12 +2,13 @@
 
 ghost use Rattle.std.specs.Prelude.{◌<◌, length};
 
-use crate::changes::{Change, both, disk_of, empty_disk, fitting_on, full_disk, run, seen_on};
+use crate::changes::{Change, both, disk_of, fitting_on, full_disk, run, seen_on};
 use base::{Graph, NoMemory};
 use memory_outside::MemDisk;
 use outside::{Side, StoreFault};
 use std::alloc::Global;
 use std::test::Fail;
+use tests_journal::trials::empty_disk;
 
 /// A side of form 3 and generation 1: file `a.vhd` of `lib`, compiled by `cc`, with the text `x` and the artefact `y`, and
 /// then with the text `w` and the artefact `v`.

@@ -159,3 +159,48 @@ fn a_failure_is_the_end(rt: HostRuntime) -> Result<(), Fail> {
     fs::remove_dir_all(&rt, path.as_path())?;
     Ok(())
 }
+
+/// Whether a disk that rests lets another one write, and then reads what that one wrote and has the lock again.
+fn shares_at_rest(rt: &HostRuntime, folder: &str) -> Result<bool, Fail> {
+    let mut first = FileDisk::new(rt.alloc(), *rt, folder)?;
+    first.write(Side::A, 0, b"ab")?;
+    let is_refused = !opens(rt, folder)?;
+    first.rest();
+    add_to_side(rt, folder)?;
+    let mut bytes = [0; 4];
+    first.read(Side::A, 0, &mut bytes)?;
+    Ok(is_refused && &bytes == b"abcd" && !opens(rt, folder)?)
+}
+
+/// Writes two bytes after two others, by a disk of its own.
+fn add_to_side(rt: &HostRuntime, folder: &str) -> Result<(), Fail> {
+    let mut disk = FileDisk::new(rt.alloc(), *rt, folder)?;
+    disk.write(Side::A, 2, b"cd")?;
+    Ok(())
+}
+
+#[test]
+fn a_disk_at_rest_lets_another_have_the_files(rt: HostRuntime) -> Result<(), Fail> {
+    let path = new_folder(&rt, "resting")?;
+    assert!(rt; shares_at_rest(&rt, path.as_str())?);
+    assert!(rt; opens(&rt, path.as_str())?);
+    fs::remove_dir_all(&rt, path.as_path())?;
+    Ok(())
+}
+
+/// Whether a disk that failed still fails after a rest, and still has the lock.
+fn fails_after_rest(rt: &HostRuntime, folder: &str) -> Result<bool, Fail> {
+    let mut disk = FileDisk::new(rt.alloc(), *rt, folder)?;
+    let began = disk.len(Side::A).is_ok();
+    let failed = fail(&mut disk, "read").is_err();
+    disk.rest();
+    Ok(began && failed && disk.len(Side::A).is_err() && !opens(rt, folder)?)
+}
+
+#[test]
+fn a_rest_mends_no_failure(rt: HostRuntime) -> Result<(), Fail> {
+    let path = new_folder(&rt, "rest_failed")?;
+    assert!(rt; fails_after_rest(&rt, path.as_str())?);
+    fs::remove_dir_all(&rt, path.as_path())?;
+    Ok(())
+}

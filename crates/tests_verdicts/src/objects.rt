@@ -5,7 +5,7 @@ ghost use Rattle.store_requests.specs.Stored.{IsOver};
 
 use crate::asked::{all_fit, are_recorded};
 use crate::lines::{answers_of, inputs_of, runs_of, simulator};
-use crate::way::{NEVER, Way, pick_of};
+use crate::way::{NEVER, Way};
 use base::{Event, Graph, NoMemory, Numbers, Positions, Text, TextList};
 use memory_outside::{MemDisk, ScriptProcs, can_answer};
 use outside::{Records, Side, StoreFault, write_durably};
@@ -16,6 +16,7 @@ use std::test::Fail;
 use store_requests::RequestStore;
 use test_loop::run_tests;
 use test_spec::{RunEnd, TestEnd, TestRunList, Verdict};
+use tests_build::picks::{pick_of, started_for};
 use tests_graphs::{Record, read_record};
 
 /// What runs did and answered.
@@ -201,20 +202,10 @@ fn place_of(inputs: &TextList, input: &Text) -> u8 {
 
 /// The run that a ticket was started for; 200 where it is none.
 fn started_run(events: &[Event], inputs: &TextList, ticket: u64) -> u8 {
-    for event in events {
-        match event {
-            Event::Started {
-                ticket: other,
-                request,
-            } => {
-                if *other == ticket {
-                    return place_of(inputs, &request.input);
-                }
-            }
-            Event::Ended { ticket: _, exit: _ } | Event::Gone { ticket: _ } => {}
-        }
+    match started_for(events, ticket) {
+        Some(request) => place_of(inputs, &request.input),
+        None => 200,
     }
-    200
 }
 
 /// An event as a letter for its kind and the place of its run. A child that wasn't asked what is wanted ends with 127.

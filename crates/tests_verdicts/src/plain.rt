@@ -2,10 +2,11 @@
 
 use crate::lines::{BENCH, CASES, CODE, LIBRARY, MODE, OUTPUT, RESULTS, output_of, part};
 use crate::objects::Told;
-use crate::way::{Way, pick_of};
+use crate::way::Way;
 use base::NoMemory;
 use run_steps::RunFault;
 use std::alloc::Global;
+use tests_build::picks::take_child;
 
 /// What has happened.
 #[derive(Drop)]
@@ -158,13 +159,9 @@ fn end(plain: &mut Plain, lines: &str, way: &Way, at: u8) -> Result<(), NoMemory
 
 /// Takes the child that the next wait takes; nothing where none runs.
 fn take(plain: &mut Plain, way: &Way) -> Option<u8> {
-    let count = plain.running.len();
-    if count == 0 {
-        return None;
-    }
-    let place = pick_of(way.picks, plain.waits) as usize % count;
+    let taken = take_child(&mut plain.running, way.picks, plain.waits)?;
     plain.waits = plain.waits.wrapping_add(1);
-    Some(plain.running.remove(place))
+    Some(taken)
 }
 
 /// One event, or nothing where the runs have ended.

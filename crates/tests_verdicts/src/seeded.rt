@@ -8,24 +8,10 @@ use std::alloc::Global;
 use std::process::Abort;
 use std::str;
 use std::test::Fail;
+use tests_build::picks::{byte, mixed};
 
 /// How many random projects there are.
 const ROWS: u32 = 400;
-
-/// A number of a seed, of which the low bits are thrown away.
-fn mixed(seed: u32, turn: u32) -> u32 {
-    let mut x = seed.wrapping_mul(0x9e37_79b1) ^ turn.wrapping_mul(0x85eb_ca77);
-    for _ in 0..3 {
-        x ^= x / 32_768;
-        x = x.wrapping_mul(0x2c1b_3c6d);
-        x ^= x / 4_096;
-    }
-    x
-}
-
-fn byte(seed: u32, turn: u32) -> u8 {
-    (mixed(seed, turn) % 256) as u8
-}
 
 fn put(out: &mut Vec<u8>, parts: &[&[u8]]) -> Result<(), NoMemory> {
     for part in parts {

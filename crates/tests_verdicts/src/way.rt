@@ -23,15 +23,3 @@ pub(super) fn way_of(limit: u32, fail_fast: bool) -> Way {
         failing: [NEVER, NEVER],
     }
 }
-
-/// The place that a wait takes, of the first eight waits.
-pub(super) fn pick_of(picks: u32, wait: u32) -> u32 {
-    if wait >= 8 {
-        return 0;
-    }
-    let mut left = picks;
-    for _ in 0..wait {
-        left /= 16;
-    }
-    left % 16
-}

@@ -10,7 +10,7 @@ use std::alloc::Global;
 use std::process::Abort;
 use std::test::Fail;
 use vhdl_lex::{no_tokens, scan_with_roles};
-use vhdl_refs::{Mentions, NamedRef, find_refs, library_names, mentions_of};
+use vhdl_refs::{NamedRef, find_refs, library_names, mentions_of};
 use vhdl_units::outline;
 
 /// What is asked of a unit.
@@ -34,6 +34,16 @@ fn scan_of(alloc: Global, text: &[u8], roles: &mut RoleList) -> Result<Scan, Fai
     Ok(Scan { tokens, units })
 }
 
+/// Adds a `!` where a reference is strict, and its token number.
+fn push_place(alloc: Global, is_strict: bool, at: u32, out: &mut Vec<u8>) -> Result<(), Fail> {
+    if is_strict {
+        out.push(b'!')?;
+    }
+    let place = format!(in alloc; "@{at}")?;
+    out.extend_from_slice(place.as_bytes())?;
+    Ok(())
+}
+
 /// Each reference as `L.U`, with its architecture, a `!` where it is strict, and its token number.
 fn push_refs(alloc: Global, refs: &RefList, out: &mut Vec<u8>) -> Result<(), Fail> {
     for found in refs.as_slice() {
@@ -48,12 +58,7 @@ fn push_refs(alloc: Global, refs: &RefList, out: &mut Vec<u8>) -> Result<(), Fai
             out.extend_from_slice(architecture.bytes())?;
             out.push(b')')?;
         }
-        if found.strict {
-            out.push(b'!')?;
-        }
-        let at = found.at;
-        let place = format!(in alloc; "@{at}")?;
-        out.extend_from_slice(place.as_bytes())?;
+        push_place(alloc, found.strict, found.at, out)?;
     }
     Ok(())
 }
@@ -88,31 +93,9 @@ fn push_named(
         push_token(text, &found.library, out)?;
         out.push(b'.')?;
         push_token(text, &found.name, out)?;
-        if found.strict {
-            out.push(b'!')?;
-        }
-        let at = found.at;
-        let place = format!(in alloc; "@{at}")?;
-        out.extend_from_slice(place.as_bytes())?;
+        push_place(alloc, found.strict, found.at, out)?;
     }
     Ok(())
-}
-
-/// What a unit mentions.
-fn mentioned(
-    alloc: Global,
-    text: &[u8],
-    scan: &Scan,
-    roles: &RoleList,
-    unit: u32,
-) -> Result<Mentions, Fail>
-    requires scan { IsScanOf text.now scan.now }
-    requires small { length text.now ≤ TEXT_LIMIT }
-    requires roles { roles.now ≡ roles_of text.now scan.now.tokens.list }
-    requires unit { unit < length scan.now.units }
-{
-    let mut room = Vec::new(alloc);
-    Ok(mentions_of(alloc, text, scan, roles, unit, &mut room)?)
 }
 
 fn push_asked(
@@ -129,32 +112,22 @@ fn push_asked(
     requires roles { roles.now ≡ roles_of text.now scan.now.tokens.list }
     requires unit { unit < length scan.now.units }
 {
+    let mut room = Vec::new(alloc);
+    let mentions = mentions_of(alloc, text, scan, roles, unit, &mut room)?;
     match asked {
         Asked::Refs => push_refs(alloc, &find_refs(alloc, text, scan, roles, unit)?, out)?,
-        Asked::ContextRefs => {
-            let mentions = mentioned(alloc, text, scan, roles, unit)?;
-            push_named(alloc, text, &mentions.contexts, out)?;
-        }
+        Asked::ContextRefs => push_named(alloc, text, &mentions.contexts, out)?,
         Asked::Libraries => {
             for name in library_names(alloc, text, scan, roles, unit)?.as_slice() {
                 out.extend_from_slice(name.bytes())?;
                 out.push(b',')?;
             }
         }
-        Asked::UsesOfAll => {
-            push_tokens(text, &mentioned(alloc, text, scan, roles, unit)?.whole, out)?;
-        }
-        Asked::Components => {
-            push_tokens(
-                text,
-                &mentioned(alloc, text, scan, roles, unit)?.components,
-                out,
-            )?;
-        }
+        Asked::UsesOfAll => push_tokens(text, &mentions.whole, out)?,
+        Asked::Components => push_tokens(text, &mentions.components, out)?,
         Asked::Count => {
             let count = find_refs(alloc, text, scan, roles, unit)?.len();
             let names = library_names(alloc, text, scan, roles, unit)?.len();
-            let mentions = mentioned(alloc, text, scan, roles, unit)?;
             let uses = mentions.whole.len();
             let components = mentions.components.len();
             let shown = format!(in alloc; "{count} {names} {uses} {components}")?;

@@ -3,16 +3,15 @@
 
 ghost use Rattle.std.specs.Prelude.{◌≡◌, []};
 
+use crate::parts::{run_once, words_of};
 use base::{Items, NamedText, NamedTextList, NoMemory, Numbers, Positions, Text, TextList};
-use base_outcomes::Outcome;
 use memory_children::LoopProcs;
 use memory_outside::{MemDisk, MemSink, MemSource, MemTree, have_paths};
 use memory_reports::MemReports;
-use outside::{Disk, Procs, Reports, Sink, Source, Tree};
+use outside::{Disk, Procs, Reports, Sink, Tree};
 use std::alloc::Global;
 use std::process::Abort;
 use std::test::Fail;
-use vunit_top::run_vunit;
 
 /// A row a line: the lines of `vunit.csv`; what `t.vhd` begins with; the words; what was said; and the report that is in
 /// `out.xml`. What was said begins with a line of the letter of the first answer, how many events it added to the journal, and
@@ -60,16 +59,6 @@ fn part(row: &str, at: usize) -> &str {
     row.split('|').nth(at).unwrap_or("")
 }
 
-fn words_of(alloc: Global, text: &str) -> Result<TextList, NoMemory> {
-    let mut words = TextList::new(alloc);
-    for word in text.split(' ') {
-        if !word.is_empty() {
-            words.push(Text::from_slice(alloc, word.as_bytes())?)?;
-        }
-    }
-    Ok(words)
-}
-
 /// A file of these two texts.
 fn add_file(
     alloc: Global,
@@ -95,37 +84,9 @@ fn project(rt: &impl Abort, alloc: Global, row: &str) -> Result<MemTree, NoMemor
     Ok(MemTree::new(alloc, files, Numbers::new(alloc)))
 }
 
-/// The letter of an answer.
-fn letter(outcome: &Outcome) -> u8 {
-    match outcome {
-        Outcome::Done => b'd',
-        Outcome::TestsFailed => b'f',
-        Outcome::Refused(_) => b'r',
-        _ => b'?',
-    }
-}
-
 /// The last digit of a number.
 fn digit(number: u64) -> u8 {
     b'0' + (number % 10) as u8
-}
-
-/// Runs the program, and gives the letter of its answer.
-fn run_once<I: Source, T: Tree, D: Disk, P: Procs, O: Sink, R: Reports>(
-    alloc: Global,
-    words: &TextList,
-    input: &mut I,
-    tree: &mut T,
-    disk: &mut D,
-    procs: &mut P,
-    out: &mut O,
-    reports: &mut R,
-) -> u8
-    requires { P.running procs.old ≡ [] }
-    ensures { P.running procs.new ≡ [] }
-{
-    let outcome = run_vunit(alloc, words, input, tree, disk, procs, out, reports);
-    letter(&outcome)
 }
 
 /// Two runs: their answers and events.

@@ -431,8 +431,7 @@ fn passes(rt: &impl Abort, alloc: Global, row: &str) -> Result<bool, NoMemory> {
 #[test]
 fn each_call_of_a_run_may_fail(rt: HostRuntime) -> Result<(), Fail> {
     for row in ROWS.lines() {
-        let passed = passes(&rt, rt.alloc(), row)?;
-        assert!(rt; passed, "{row}");
+        assert!(rt; passes(&rt, rt.alloc(), row)?, "{row}");
     }
     Ok(())
 }

@@ -300,8 +300,7 @@ fn a_stop_of_the_run_after_a_failed_disk_call_leaves_the_same(rt: HostRuntime) -
 #[test]
 fn a_stop_at_any_moment_leaves_what_the_next_run_goes_on_from(rt: HostRuntime) -> Result<(), Fail> {
     for row in ROWS.lines() {
-        let passed = passes_row(&rt, rt.alloc(), row)?;
-        assert!(rt; passed, "{row}");
+        assert!(rt; passes_row(&rt, rt.alloc(), row)?, "{row}");
     }
     Ok(())
 }

@@ -1,5 +1,5 @@
 -- The edges of linked files rise, are within the project, and none leads from a file to itself.
-use Rattle.std.proofs.Common.{◌≡◌, ◌≢◌, ℕ, ◌+◌, ◌<◌, ◌≤◌, ◌==◌, Bool, true, false, not, List, [], length, get_or, inl, inr, sym, ◌∙◌, ap, subst, arith}
+use Rattle.std.proofs.Common.{◌≡◌, ◌≢◌, ℕ, ◌<◌, ◌≤◌, ◌==◌, Bool, true, false, not, List, [], length, get_or, inl, inr, sym, ◌∙◌, ap, subst, arith}
 use Rattle.std.specs.Prelude.{All, filter, Result, Ok, Err, IfOk}
 use Rattle.std.specs.List.Sorted.{IsStrictlyIncreasing}
 use Rattle.std.proofs.lemmas.Bool.{cases_lt, eq-eqb}
@@ -13,18 +13,10 @@ use Rattle.base.specs.declared.project.Project.{Project}
 use Rattle.base.specs.PresentGraph.{below}
 use Rattle.base.proofs.Below.{length-below, get_or-below}
 use Rattle.vhdl_spec.specs.Dependencies.{LinkUnit, depends_on, edges_of}
+use Rattle.order_spec.proofs.Finds.{below_all, below_rises}
 use Rattle.order_spec.specs.BuildOrder.{AreEdges, deps_in}
 use Rattle.vhdl_spec.proofs.SomeTests.{and_cases}
 use Rattle.vhdl_graph.specs.Linking.{GivesAll}
-
-below_rises : (n : ℕ) → IsStrictlyIncreasing (below n)
-below_rises n k lt =
-    let a : k < n = omega (arith, length-below n) in
-    let b : k + 1 < n = omega (arith, length-below n) in
-    rw (get_or-below n k 0 a, get_or-below n (k + 1) 0 b) (omega arith)
-
-below_all : (n : ℕ) → All (λ k. k < n) (below n)
-below_all n k d lt = let a : k < n = omega (arith, length-below n) in rw (get_or-below n k d a) a
 
 module _ (project : Project) (units : List LinkUnit) (few : length project.files ≤ FILE_LIMIT) where
   abbrev files : ℕ

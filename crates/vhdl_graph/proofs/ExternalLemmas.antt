@@ -15,12 +15,12 @@ use Rattle.base.specs.declared.refs.Ref.{Ref}
 use Rattle.vhdl_spec.specs.References.{owner_name}
 use Rattle.vhdl_spec.specs.Visibility.{is_secondary}
 use Rattle.vhdl_spec.specs.Dependencies.{LinkUnit, has_files, in_library, is_architecture_kind, is_body, is_body_kind, is_external, is_given_architecture, is_one_of, is_package_kind, is_primary}
+use Rattle.vhdl_spec.proofs.SomeTests.{and_false}
 use Rattle.vhdl_graph.specs.declared.libraries.Libraries.{Libraries}
 use Rattle.vhdl_graph.specs.Indexes.{IsOfFile}
 use Rattle.vhdl_graph.specs.Libraries.{AreLibraries, always_external, knows}
 use Rattle.vhdl_graph.specs.Meanings.{missing_in, missing_units, names_in}
 use Rattle.vhdl_graph.specs.Rows.{stands_at}
-use Rattle.vhdl_graph.proofs.RowLemmas.{and_false}
 
 -- what the program tests is what the definition says
 pub external_is : (project : Project) (libraries : Libraries) (library : List ℕ) → AreLibraries project libraries → (not (knows libraries.own library) && knows libraries.external library) ≡ true → is_external project library ≡ true

@@ -11,6 +11,7 @@ use Rattle.base.specs.declared.refs.UnitId.{UnitId}
 use Rattle.base_position_set.specs.declared.set.PositionSet.{PositionSet}
 use Rattle.vhdl_spec.specs.Dependencies.{LinkUnit, first_some, is_external, missing_of, names_unit}
 use Rattle.vhdl_scope.specs.Tables.{table_sees}
+use Rattle.vhdl_spec.proofs.SomeTests.{or_none}
 use Rattle.vhdl_graph.specs.declared.seen.Tables.{Tables}
 use Rattle.vhdl_graph.specs.Indexes.{GivesOrFaults, IsFaultOf}
 use Rattle.vhdl_graph.specs.Libraries.{stands_outside}
@@ -20,7 +21,7 @@ use Rattle.vhdl_graph.specs.Rows.{HasAdded, stands_at}
 use Rattle.vhdl_graph.proofs.ExternalLemmas.{external_is, none_missing_there, none_named_there}
 use Rattle.vhdl_graph.proofs.IndexLemmas.{fault_on}
 use Rattle.vhdl_graph.proofs.LinkLemmas.{gives_on, linked_seen, linked_unseen, none_append, or_nothing}
-use Rattle.vhdl_graph.proofs.RowLemmas.{added_both, added_none, added_same, or_none}
+use Rattle.vhdl_graph.proofs.RowLemmas.{added_both, added_none, added_same}
 
 first_true : (a b : Bool) → (a && not b) ≡ true → a ≡ true
 first_true true b is = refl

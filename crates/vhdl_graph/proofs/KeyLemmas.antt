@@ -6,6 +6,7 @@ use Rattle.base.specs.declared.design.UnitKind.TheVariants as kinds
 use Rattle.vhdl_spec.specs.References.{owner_name}
 use Rattle.vhdl_spec.specs.Dependencies.{LinkUnit, in_library, is_alike, is_architecture, is_architecture_kind, is_body, is_body_kind, is_primary}
 use Rattle.vhdl_spec.specs.Visibility.{is_secondary}
+use Rattle.vhdl_spec.proofs.SomeTests.{and_false, and_true, or_none}
 use Rattle.vhdl_graph.specs.Keys.{DesignUnitKey, architecture_key, body_key, is_same_key, key_of, primary_key, design_unit_key}
 use Rattle.vhdl_graph.specs.KeyOrder.{keys_decide}
 
@@ -62,34 +63,13 @@ module _ (library name : List ℕ) (unit : LinkUnit) where
 -- ## Units of one name
 
 first_of : (x y z : Bool) → ((x && true) || (y && false) || (z && false)) ≡ x
-first_of true true true = refl
-first_of true true false = refl
-first_of true false true = refl
-first_of true false false = refl
-first_of false true true = refl
-first_of false true false = refl
-first_of false false true = refl
-first_of false false false = refl
+first_of x y z = rw (and_true x, and_false y, and_false z) (or_none x)
 
 second_of : (x y z : Bool) → ((x && false) || (y && true) || (z && false)) ≡ y
-second_of true true true = refl
-second_of true true false = refl
-second_of true false true = refl
-second_of true false false = refl
-second_of false true true = refl
-second_of false true false = refl
-second_of false false true = refl
-second_of false false false = refl
+second_of x y z = rw (and_false x, and_true y, and_false z) (or_none y)
 
 third_of : (x y z : Bool) → ((x && false) || (y && false) || (z && true)) ≡ z
-third_of true true true = refl
-third_of true true false = refl
-third_of true false true = refl
-third_of true false false = refl
-third_of false true true = refl
-third_of false true false = refl
-third_of false false true = refl
-third_of false false false = refl
+third_of x y z = rw (and_false x, and_false y, and_true z) refl
 
 module _ (unit other : LinkUnit) where
   by_kind : (kind : UnitKind) →

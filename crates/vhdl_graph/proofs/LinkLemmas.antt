@@ -12,13 +12,14 @@ use Rattle.base.specs.declared.refs.Ref.{Ref}
 use Rattle.base.specs.declared.refs.UnitId.{UnitId}
 use Rattle.vhdl_spec.specs.Dependencies.{LinkUnit, first_some, is_external, is_seen, library_of, missing_of, names_unit}
 use Rattle.vhdl_scope.specs.Tables.{table_sees}
+use Rattle.vhdl_spec.proofs.SomeTests.{and_false, and_true}
 use Rattle.vhdl_graph.specs.declared.seen.Tables.{Tables}
 use Rattle.vhdl_graph.specs.Indexes.{GivesOrFaults, IsFaultOf}
 use Rattle.vhdl_graph.specs.Linking.{Stands, named_library}
 use Rattle.vhdl_graph.specs.Meanings.{missing_in, missing_units, names_in}
 use Rattle.vhdl_graph.specs.Rows.{HasAdded, stands_at}
 use Rattle.vhdl_graph.proofs.IndexLemmas.{fault_on, mapped_more, mapped_split}
-use Rattle.vhdl_graph.proofs.RowLemmas.{added_both, added_none, added_same, and_false, and_true, stands_never, stands_same}
+use Rattle.vhdl_graph.proofs.RowLemmas.{added_both, added_none, added_same, stands_never, stands_same}
 
 -- the same is said of the same
 pub gives_on : {T : Type 0} (said other : Option LinkFault) (P Q : T → Type 0) (result : Result T LinkFault) → other ≡ said → ((value : T) → P value → Q value) → GivesOrFaults said P result → GivesOrFaults other Q result

@@ -3,11 +3,12 @@ use Rattle.std.proofs.Common.{◌≡◌, ℕ, Bool, ◌&&◌, ◌||◌, List, sy
 use Rattle.std.specs.List.{list_any}
 use Rattle.base.specs.declared.refs.Ref.{Ref}
 use Rattle.vhdl_spec.specs.Dependencies.{LinkUnit, is_architecture, is_body, is_given_architecture, is_package_kind, is_primary}
+use Rattle.vhdl_spec.proofs.SomeTests.{any_same}
 use Rattle.vhdl_graph.specs.Keys.{architecture_key, body_key, is_same_key, key_of, primary_key}
 use Rattle.vhdl_graph.specs.Meanings.{names_in}
 use Rattle.vhdl_graph.specs.Rows.{has_package, is_named_at, stands_at}
 use Rattle.vhdl_graph.proofs.KeyLemmas.{architecture_is, body_is, primary_is}
-use Rattle.vhdl_graph.proofs.RowLemmas.{any_same, stands_or, stands_same, stands_where}
+use Rattle.vhdl_graph.proofs.RowLemmas.{stands_or, stands_same, stands_where}
 
 pub primary_any : (library name : List ℕ) (units : List LinkUnit) → list_any (λ u. is_same_key (primary_key library name) (key_of u)) units ≡ list_any (is_primary library name) units
 primary_any library name units = any_same _ _ units (λ u. sym (primary_is library name u))

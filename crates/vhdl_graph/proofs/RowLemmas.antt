@@ -9,7 +9,7 @@ use Rattle.order_spec.proofs.Finds.{found_passes, found_within, none_passes}
 use Rattle.base_position_set.specs.declared.set.PositionSet.{PositionSet}
 use Rattle.base_position_set.specs.Positions.{has}
 use Rattle.vhdl_spec.specs.Dependencies.{LinkUnit, is_package_kind}
-use Rattle.vhdl_spec.proofs.SomeTests.{and_both, and_cases, some_of}
+use Rattle.vhdl_spec.proofs.SomeTests.{and_both, and_cases, and_false, and_true, any_never, any_same, or_group, or_none, some_of}
 use Rattle.vhdl_scope.proofs.Exact.{any_by}
 use Rattle.vhdl_scope.proofs.TableLemmas.{both_ways}
 use Rattle.vhdl_graph.specs.declared.index.Place.{Place}
@@ -19,34 +19,6 @@ use Rattle.vhdl_graph.specs.Rows.{HasAdded, has_package, is_named_at, stands_at}
 use Rattle.vhdl_graph.proofs.KeyLemmas.{same_key}
 
 -- ## Tests of some unit
-
-pub any_same : {X : Type 0} (p q : X → Bool) (xs : List X) → ((x : X) → p x ≡ q x) → list_any p xs ≡ list_any q xs
-any_same p q [] same = refl
-any_same p q (x ∷ xs) same = ap (λ (b : Bool). b || list_any p xs) (same x) ∙ ap (λ (b : Bool). q x || b) (any_same p q xs same)
-
-pub any_never : {X : Type 0} (xs : List X) → list_any (λ (x : X). false) xs ≡ false
-any_never [] = refl
-any_never (x ∷ xs) = any_never xs
-
-pub and_false : (a : Bool) → (a && false) ≡ false
-and_false true = refl
-and_false false = refl
-
-pub and_true : (a : Bool) → (a && true) ≡ a
-and_true true = refl
-and_true false = refl
-
-pub and_swap : (a b : Bool) → (a && b) ≡ (b && a)
-and_swap true b = sym (and_true b)
-and_swap false b = sym (and_false b)
-
-pub or_none : (a : Bool) → (a || false) ≡ a
-or_none true = refl
-or_none false = refl
-
-or_group : (a b c : Bool) → ((a || b) || c) ≡ (a || (b || c))
-or_group true b c = refl
-or_group false b c = refl
 
 mixed : (p a b x y : Bool) → ((p && (a || b)) || (x || y)) ≡ (((p && a) || x) || ((p && b) || y))
 mixed false a b x y = refl

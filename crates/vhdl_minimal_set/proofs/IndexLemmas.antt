@@ -8,6 +8,7 @@ use Rattle.std.proofs.lemmas.List.Folds.{list_any-append}
 use Rattle.base.specs.declared.design.Scan.{Scan}
 use Rattle.base.specs.declared.design.Unit.{Unit as DesignUnit}
 use Rattle.base.specs.declared.project.ProjectFile.{ProjectFile}
+use Rattle.vhdl_spec.proofs.SomeTests.{and_false, and_swap, or_group, or_none}
 use Rattle.vhdl_minimal_set.specs.MinimalSet.{NeedSources, NeedUnit, need_unit, units_at}
 use Rattle.vhdl_keys.specs.UnitKeys.{is_same_unit, same_parts, unit_key}
 use Rattle.std.proofs.lemmas.Option.{slice_get-get_or, slice_get_within}
@@ -20,7 +21,7 @@ use Rattle.vhdl_keys.specs.declared.units.UnitKey.{UnitKey}
 use Rattle.vhdl_minimal_set.specs.declared.suppliers.Suppliers.{Suppliers}
 use Rattle.vhdl_minimal_set.proofs.Supplied.{units_there}
 use Rattle.vhdl_minimal_set.proofs.SupplierLemmas.{none_supplied}
-use Rattle.vhdl_minimal_set.proofs.Tests.{and_none, and_or, and_turned, any_map, or_group, or_none}
+use Rattle.vhdl_minimal_set.proofs.Tests.{and_or, any_map}
 
 abbrev no_scan : Scan
 no_scan = record { tokens = record { list = []; comments = [] }; units = [] }
@@ -30,14 +31,14 @@ pub adds_one : (naming : Naming) (library : List ℕ) (unit : DesignUnit) (file 
     → ((other : UnitKey) (at : ℕ) → supplies new other at ≡ (supplies old other at || (is_same_unit other name && file == at))) → naming library unit ≡ Some name → Adds naming library (unit ∷ []) file count old new
 adds_one naming library unit file count old new name fit added is = record {
   fit = fit;
-  all = λ other at. added other at ∙ ap (λ (b : Bool). supplies old other at || b) (and_turned (is_same_unit other name) (file == at) ∙ ap (λ (b : Bool). file == at && b) (sym (or_none (is_called other (naming library unit)) ∙ ap (is_called other) is)));
+  all = λ other at. added other at ∙ ap (λ (b : Bool). supplies old other at || b) (and_swap (is_same_unit other name) (file == at) ∙ ap (λ (b : Bool). file == at && b) (sym (or_none (is_called other (naming library unit)) ∙ ap (is_called other) is)));
 }
 
 -- nothing was added
 pub adds_nothing : (naming : Naming) (library : List ℕ) (file count : ℕ) (suppliers : Suppliers) → FitFiles count suppliers → Adds naming library [] file count suppliers suppliers
 adds_nothing naming library file count suppliers fit = record {
   fit = fit;
-  all = λ name at. sym (ap (λ (b : Bool). supplies suppliers name at || b) (and_none (file == at)) ∙ or_none (supplies suppliers name at));
+  all = λ name at. sym (ap (λ (b : Bool). supplies suppliers name at || b) (and_false (file == at)) ∙ or_none (supplies suppliers name at));
 }
 
 -- one unit more was added

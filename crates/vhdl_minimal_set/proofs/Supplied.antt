@@ -18,6 +18,7 @@ use Rattle.base.specs.declared.refs.UnitId.{UnitId}
 use Rattle.vhdl_spec.specs.Dependencies.{is_architecture_kind, is_body_kind, is_one_of, is_package_kind}
 use Rattle.vhdl_spec.specs.References.{owner_name}
 use Rattle.vhdl_spec.specs.Visibility.{sees}
+use Rattle.vhdl_spec.proofs.SomeTests.{and_true, and_false, any_never, any_same, or_group, or_none}
 use Rattle.vhdl_minimal_set.specs.MinimalSet.{NeedSources, NeedUnit, has_architecture, has_body, is_entity_kind, looks_into, may_bind, need_unit, scopes_of, units_at, units_of, wants_of, needs, uses}
 use Rattle.vhdl_scope.specs.Tables.{table_sees}
 use Rattle.vhdl_refs.specs.Components.{component_names}
@@ -34,7 +35,7 @@ use Rattle.vhdl_keys.specs.UnitKeys.{unit_key}
 use Rattle.vhdl_keys.specs.declared.units.UnitKey.{UnitKey}
 use Rattle.vhdl_minimal_set.specs.declared.suppliers.Suppliers.{Suppliers}
 use Rattle.vhdl_minimal_set.specs.declared.units.Tables.{Tables}
-use Rattle.vhdl_minimal_set.proofs.Tests.{and_all, and_none, any_map, any_never, any_or, any_same, any_swapped, any_where, or_group, or_none}
+use Rattle.vhdl_minimal_set.proofs.Tests.{any_map, any_or, any_swapped, any_where}
 
 -- ## What a unit is called
 
@@ -57,7 +58,7 @@ called_body kinds.PackageInstance library name other unit = refl
 called_body kinds.Context library name other unit = refl
 
 called_entity : (kind : UnitKind) (name : List ℕ) (other : List ℕ) (unit : DesignUnit) → is_called (unit_key [] name) (entity_by kind other unit) ≡ (is_entity_kind kind && bytes_eq name unit.name)
-called_entity kinds.Entity name other unit = and_all (bytes_eq name unit.name)
+called_entity kinds.Entity name other unit = and_true (bytes_eq name unit.name)
 called_entity kinds.Architecture name other unit = refl
 called_entity kinds.Configuration name other unit = refl
 called_entity kinds.Package name other unit = refl
@@ -77,7 +78,7 @@ supplied_all naming said name at = elim (cases_lt at (length said.files)) [
   | inl low ↦ ap (λ (b : Bool). b && list_any (λ unit. is_called name (naming unit.scope.library unit.scope.unit)) (units_at said at)) (lt-ltb at (length said.files) low)
   | inr past ↦
       let none : list_any (λ (unit : NeedUnit). is_called name (naming unit.scope.library unit.scope.unit)) (units_at said at) ≡ false = ap (list_any (λ (unit : NeedUnit). is_called name (naming unit.scope.library unit.scope.unit))) (no_units said at past) in
-      ap (λ (b : Bool). nat_lt at (length said.files) && b) none ∙ and_none (nat_lt at (length said.files)) ∙ sym none
+      ap (λ (b : Bool). nat_lt at (length said.files) && b) none ∙ and_false (nat_lt at (length said.files)) ∙ sym none
 ]
 
 abbrev arch_of : UnitKind → List ℕ → List ℕ → NeedUnit → Bool
@@ -175,7 +176,7 @@ module _ (said : NeedSources) (tables : Tables) (known : IsKnown tables said) (i
   Agrees units at = (looks tables id at && list_any is_named units) ≡ list_any (λ other. may_bind (scopes_of said) user.scope user.components other.scope) units
 
   agree_none : (at : ℕ) → Agrees [] at
-  agree_none at = and_none (looks tables id at)
+  agree_none at = and_false (looks tables id at)
 
   agree_all : (at : ℕ) (other : ProjectFile) (its_text : List ℕ) (its_scan : Scan) → slice_get said.files at ≡ Some other → Agrees (map (need_unit other.name.library its_text its_scan) its_scan.units) at
   agree_all at other its_text its_scan found =

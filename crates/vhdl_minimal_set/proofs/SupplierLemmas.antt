@@ -9,10 +9,10 @@ use Rattle.std.proofs.lemmas.Bool.Decides.{nat_tests}
 use Rattle.std.proofs.lemmas.Option.{get_or_from_slice_get}
 use Rattle.base_key_index.specs.Keys.{TakesNumber}
 use Rattle.vhdl_keys.specs.UnitKeys.{is_same_unit, units_decide}
+use Rattle.vhdl_spec.proofs.SomeTests.{or_none}
 use Rattle.vhdl_minimal_set.specs.Suppliers.{FitFiles, HasPut, IsPaired, files_of, has_file, supplies, with_room}
 use Rattle.vhdl_keys.specs.declared.units.UnitKey.{UnitKey}
 use Rattle.vhdl_minimal_set.specs.declared.suppliers.Suppliers.{Suppliers}
-use Rattle.vhdl_minimal_set.proofs.Tests.{or_none}
 
 nowhere : {X : Type 0} (xs : List X) (k : ℕ) (d : X) → length xs ≤ k → get_or xs k d ≡ d
 nowhere [] k d past = refl

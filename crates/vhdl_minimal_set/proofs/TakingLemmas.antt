@@ -7,9 +7,10 @@ use Rattle.std.proofs.lemmas.List.{append-nil}
 use Rattle.std.proofs.lemmas.List.Elements.{All-push}
 use Rattle.std.proofs.lemmas.List.Folds.{list_any-append}
 use Rattle.std.proofs.lemmas.Map.Keys.{IsDistinct-push}
+use Rattle.vhdl_spec.proofs.SomeTests.{or_group, or_none}
 use Rattle.vhdl_minimal_set.specs.Taking.{AreTaken, GoesOn, Grows, Takes, is_taken}
 use Rattle.vhdl_minimal_set.specs.declared.taken.Taken.{Taken}
-use Rattle.vhdl_minimal_set.proofs.Tests.{or_group, or_none, or_within}
+use Rattle.vhdl_minimal_set.proofs.Tests.{or_within}
 
 pub grows_none : (count : ℕ) (t : Taken) → AreTaken count t → Grows count t t
 grows_none count t are = record { are = are; goes_on = record { more = []; is = sym (append-nil t.list.items) } }

@@ -1,31 +1,12 @@
 -- Tests that are joined, and tests of some element.
 use Rattle.std.proofs.Common.{◌≡◌, Bool, true, false, ◌&&◌, ◌||◌, List, [], ◌∷◌, map, refl, sym, ◌∙◌, ap}
 use Rattle.std.specs.List.{list_any}
+use Rattle.vhdl_spec.proofs.SomeTests.{any_never}
 
 pub both_ways : (a b : Bool) → (a ≡ true → b ≡ true) → (b ≡ true → a ≡ true) → a ≡ b
 both_ways true b there back = sym (there refl)
 both_ways false true there back = back refl
 both_ways false false there back = refl
-
-pub or_group : (a b c : Bool) → ((a || b) || c) ≡ (a || (b || c))
-or_group true b c = refl
-or_group false b c = refl
-
-pub or_none : (a : Bool) → (a || false) ≡ a
-or_none true = refl
-or_none false = refl
-
-pub and_none : (a : Bool) → (a && false) ≡ false
-and_none true = refl
-and_none false = refl
-
-pub and_all : (a : Bool) → (a && true) ≡ a
-and_all true = refl
-and_all false = refl
-
-pub and_turned : (a b : Bool) → (a && b) ≡ (b && a)
-and_turned true b = sym (and_all b)
-and_turned false b = sym (and_none b)
 
 pub and_or : (p a b : Bool) → (p && (a || b)) ≡ ((p && a) || (p && b))
 and_or true a b = refl
@@ -36,14 +17,6 @@ pub or_within : (a b : Bool) → (b ≡ true → a ≡ true) → a ≡ (a || b)
 or_within true b within = refl
 or_within false true within = within refl
 or_within false false within = refl
-
-pub any_same : {X : Type 0} (p q : X → Bool) (xs : List X) → ((x : X) → p x ≡ q x) → list_any p xs ≡ list_any q xs
-any_same p q [] same = refl
-any_same p q (x ∷ xs) same = ap (λ (b : Bool). b || list_any p xs) (same x) ∙ ap (λ (b : Bool). q x || b) (any_same p q xs same)
-
-pub any_never : {X : Type 0} (xs : List X) → list_any (λ (x : X). false) xs ≡ false
-any_never [] = refl
-any_never (x ∷ xs) = any_never xs
 
 mixed : (a b x y : Bool) → ((a || b) || (x || y)) ≡ ((a || x) || (b || y))
 mixed true b x y = refl

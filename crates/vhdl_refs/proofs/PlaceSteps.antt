@@ -1,42 +1,10 @@
--- One place more.
-use Rattle.std.proofs.Common.{◌≡◌, ℕ, zero, suc, ◌+◌, ◌-◌, ◌<◌, ◌≤◌, Bool, true, false, cond, List, [], ◌∷◌, ◌++◌, Option, Some, None, map, filter, refl, sym, ◌∙◌, ap, append_assoc, arith}
-use Rattle.std.specs.List.{range_with_len, find}
-use Rattle.std.proofs.lemmas.List.{map-append}
-use Rattle.std.proofs.lemmas.List.Elements.{filter-append}
-use Rattle.std.proofs.lemmas.List.Folds.{find-append}
-use Rattle.std.specs.Option.{option_or}
+-- The places of references, and one place more of a walk that keeps places as they are.
+use Rattle.std.proofs.Common.{◌≡◌, ℕ, ◌+◌, ◌≤◌, Bool, cond, List, [], ◌∷◌, ◌++◌, map, refl, sym, ◌∙◌, ap, append_assoc}
 use Rattle.base.specs.declared.design.Role.{Role}
 use Rattle.vhdl_spec.specs.References.{is_reference, places}
+use Rattle.vhdl_spec.proofs.Walks.{places_more}
 use Rattle.vhdl_refs.specs.declared.places.RefPlace.{RefPlace}
 use Rattle.vhdl_refs.specs.Places.{ref_place, refs_between}
-
-range_more : (start n at : ℕ) → start + n ≡ at → range_with_len start (suc n) ≡ range_with_len start n ++ at ∷ []
-range_more start zero at is = let same : start ≡ at = omega arith in ap (λ (k : ℕ). k ∷ []) same
-range_more start (suc n) at is = ap (λ (rest : List ℕ). start ∷ rest) (range_more (start + 1) n at (omega arith))
-
-range_up_to : (start at : ℕ) → start ≤ at → range_with_len start (at + 1 - start) ≡ range_with_len start (at - start) ++ at ∷ []
-range_up_to start at ordered =
-    let more : at + 1 - start ≡ suc (at - start) = omega arith in
-    ap (range_with_len start) more ∙ range_more start (at - start) at (omega arith)
-
-range_none : (start : ℕ) → range_with_len start (start - start) ≡ []
-range_none start = let none : start - start ≡ 0 = omega arith in ap (range_with_len start) none
-
-pub places_none : (test : ℕ → Bool) (start : ℕ) → places test start start ≡ []
-places_none test start = ap (filter test) (range_none start)
-
-pub places_more : (test : ℕ → Bool) (start at : ℕ) → start ≤ at → places test start (at + 1) ≡ places test start at ++ cond (test at) (at ∷ []) []
-places_more test start at ordered = ap (filter test) (range_up_to start at ordered) ∙ filter-append test (range_with_len start (at - start)) (at ∷ [])
-
-map_cond : {X : Type 0} (f : ℕ → X) (test : Bool) (at : ℕ) → map f (cond test (at ∷ []) []) ≡ cond test (f at ∷ []) []
-map_cond f true at = refl
-map_cond f false at = refl
-
--- what a walk over places has found after one place more
-pub walk_more : {X : Type 0} (f : ℕ → X) (test : ℕ → Bool) (start at : ℕ) (done items more : List X) → start ≤ at → items ≡ done ++ map f (places test start at) → more ≡ items ++ cond (test at) (f at ∷ []) [] → more ≡ done ++ map f (places test start (at + 1))
-walk_more {X} f test start at done items more ordered so_far adds =
-    let longer : map f (places test start (at + 1)) ≡ map f (places test start at) ++ cond (test at) (f at ∷ []) [] = ap (map f) (places_more test start at ordered) ∙ map-append f (places test start at) (cond (test at) (at ∷ []) []) ∙ ap (λ (xs : List X). map f (places test start at) ++ xs) (map_cond f (test at) at) in
-    adds ∙ ap (λ (xs : List X). xs ++ cond (test at) (f at ∷ []) []) so_far ∙ append_assoc done (map f (places test start at)) (cond (test at) (f at ∷ []) []) ∙ ap (λ (xs : List X). done ++ xs) (sym longer)
 
 pub places_all_more : (test : ℕ → Bool) (start at : ℕ) (done items more : List ℕ) → start ≤ at → items ≡ done ++ places test start at → more ≡ items ++ cond (test at) (at ∷ []) [] → more ≡ done ++ places test start (at + 1)
 places_all_more test start at done items more ordered so_far adds =
@@ -49,27 +17,3 @@ made_at {X} f roles (at ∷ found) = ap (λ (rest : List X). f at ∷ rest) (mad
 
 pub refs_at_places : {X : Type 0} (f : ℕ → X) (roles : List Role) (start end : ℕ) → map (λ (place : RefPlace). f place.at) (refs_between roles start end) ≡ map f (places (is_reference roles) start end)
 refs_at_places f roles start end = made_at f roles (places (is_reference roles) start end)
-
--- ## The first place
-
-first_later : (test : ℕ → Bool) (start n m found : ℕ) → find test (range_with_len start n) ≡ Some found → n ≤ m → find test (range_with_len start m) ≡ Some found
-first_later test start zero m found is within = let no : ⊥ = cc in absurd no
-first_later test start (suc n) zero found is within = absurd (omega arith)
-first_later test start (suc n) (suc m) found is within =
-    elim (test start) as (λ b. cond b (Some start) (find test (range_with_len (start + 1) n)) ≡ Some found → cond b (Some start) (find test (range_with_len (start + 1) m)) ≡ Some found) [ true ↦ λ here. here | false ↦ λ later. first_later test (start + 1) n m found later (omega arith) ] is
-
-find_more : (test : ℕ → Bool) (start at : ℕ) → start ≤ at → find test (range_with_len start (at + 1 - start)) ≡ option_or (find test (range_with_len start (at - start))) (cond (test at) (Some at) None)
-find_more test start at ordered = ap (find test) (range_up_to start at ordered) ∙ find-append test (range_with_len start (at - start)) (at ∷ [])
-
-pub first_none : (test : ℕ → Bool) (start : ℕ) → find test (range_with_len start (start - start)) ≡ None
-first_none test start = ap (find test) (range_none start)
-
--- not so far, and not here
-pub first_not_yet : (test : ℕ → Bool) (start at : ℕ) → start ≤ at → find test (range_with_len start (at - start)) ≡ None → test at ≡ false → find test (range_with_len start (at + 1 - start)) ≡ None
-first_not_yet test start at ordered none fails =
-    find_more test start at ordered ∙ ap (λ (found : Option ℕ). option_or found (cond (test at) (Some at) None)) none ∙ ap (λ (b : Bool). cond b (Some at) None) fails
-
--- not so far, but here
-pub first_here : (test : ℕ → Bool) (start at end : ℕ) → start ≤ at → at < end → find test (range_with_len start (at - start)) ≡ None → test at ≡ true → find test (range_with_len start (end - start)) ≡ Some at
-first_here test start at end ordered within none passes =
-    first_later test start (at + 1 - start) (end - start) at (find_more test start at ordered ∙ ap (λ (found : Option ℕ). option_or found (cond (test at) (Some at) None)) none ∙ ap (λ (b : Bool). cond b (Some at) None) passes) (omega arith)

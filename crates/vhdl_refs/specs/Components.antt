@@ -1,10 +1,11 @@
 -- The components that a design unit declares, or instantiates by that word (IEEE Std 1076-2008, clauses 6.8 and 11.7): the
 -- NAME after each `component`. After `end` the word says what ends.
-use Rattle.std.specs.Prelude.{◌≡◌, ℕ, ◌+◌, ◌<◌, ◌≤◌, ◌&&◌, not, Bool, true, false, List, map}
+use Rattle.std.specs.Prelude.{ℕ, ◌+◌, ◌&&◌, not, Bool, true, false, List, map}
 use Rattle.base.specs.declared.design.Role.{Role}
 use Rattle.base.specs.declared.design.Role.TheVariants.{Component, End}
 use Rattle.base.specs.declared.design.Unit.{Unit as DesignUnit}
 use Rattle.base.specs.declared.lexical.Token.{Token}
+use Rattle.vhdl_spec.specs.Passing.{HasPassedOver, NonePasses}
 use Rattle.vhdl_spec.specs.References.{is_name, places, role_before}
 use Rattle.vhdl_spec.specs.Units.{name_of, role_at, roles_of}
 
@@ -36,12 +37,14 @@ component_names text tokens unit = map (name_of text tokens) (components_between
 
 -- ## What a walk passes over
 
+-- a token is `component`
+abbrev pub is_component_at : List Role → ℕ → Bool
+is_component_at roles at = is_component_word (role_at roles at)
+
 -- no token from one up to another is `component`
 abbrev pub HasNoComponent : List Role → ℕ → ℕ → Type 0
-HasNoComponent roles from end = (at : ℕ) → from ≤ at → at < end → is_component_word (role_at roles at) ≡ false
+HasNoComponent roles from end = NonePasses (is_component_at roles) from end
 
 -- a walk that goes up to a place at most has passed over tokens that aren't `component`
-pub record HasPassedWords (roles : List Role) (from end at : ℕ) : Type 0 where
-  pub reaches : from ≤ at
-  pub within : at ≤ end
-  pub none : HasNoComponent roles from at
+abbrev pub HasPassedWords : List Role → ℕ → ℕ → ℕ → Type 0
+HasPassedWords roles from end at = HasPassedOver (is_component_at roles) from end at

@@ -1,15 +1,18 @@
 -- Tokens that are no dots, and tokens that no dot follows.
-use Rattle.std.specs.Prelude.{◌≡◌, ℕ, ◌+◌, ◌<◌, ◌≤◌, false, List}
+use Rattle.std.specs.Prelude.{ℕ, ◌+◌, Bool, List}
 use Rattle.base.specs.declared.design.Role.{Role}
+use Rattle.vhdl_spec.specs.Passing.{HasPassedOver, NonePasses}
 use Rattle.vhdl_spec.specs.References.{is_dot}
 use Rattle.vhdl_spec.specs.Units.{role_at}
 
 -- no token from one up to another is a dot
 abbrev pub IsDotless : List Role → ℕ → ℕ → Type 0
-IsDotless roles from end = (at : ℕ) → from ≤ at → at < end → is_dot (role_at roles at) ≡ false
+IsDotless roles from end = NonePasses (λ at. is_dot (role_at roles at)) from end
+
+-- a dot follows a token
+abbrev pub is_dotted : List Role → ℕ → Bool
+is_dotted roles at = is_dot (role_at roles (at + 1))
 
 -- a walk that goes up to a place at most has passed over tokens that no dot follows
-pub record HasPassed (roles : List Role) (from end at : ℕ) : Type 0 where
-  pub reaches : from ≤ at
-  pub within : at ≤ end
-  pub none : (passed : ℕ) → from ≤ passed → passed < at → is_dot (role_at roles (passed + 1)) ≡ false
+abbrev pub HasPassed : List Role → ℕ → ℕ → ℕ → Type 0
+HasPassed roles from end at = HasPassedOver (is_dotted roles) from end at

@@ -1,5 +1,4 @@
 -- Lemmas of this crate.
-mod FirstPlaces
 mod Pieces
 mod Calling
 mod Quotes

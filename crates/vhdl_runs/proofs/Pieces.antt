@@ -1,12 +1,10 @@
--- The strings of a cut have two quotes, and its comments are in the text.
+-- The strings of a cut have two quotes.
 use Rattle.std.proofs.Common.{◌≡◌, ℕ, zero, suc, ◌+◌, ◌<◌, ◌≤◌, true, List, [], ◌∷◌, ◌++◌, length, sym, subst, arith}
-use Rattle.base.specs.declared.lexical.Span.{Span}
 use Rattle.base.specs.declared.lexical.Token.{Token}
 use Rattle.base.specs.declared.lexical.Tokens.{Tokens}
 use Rattle.base.specs.declared.lexical.TokenKind.{TokenKind}
 use Rattle.base.specs.declared.lexical.TokenKind.TheVariants.{Word, Extended, Number, Str, Char, Tick, Symbol, High}
-use Rattle.std.specs.Prelude.{slice_index_or}
-use Rattle.vhdl_spec.specs.Tokens.{Row, byte_order_mark, blank, line_comment, block_comment, tool_directive, token, HasForm, Inside, nothing, byte, pair, Piece, Place, Leads, comment_of, comments_of, place_after, text_start, token_of, tokens_of}
+use Rattle.vhdl_spec.specs.Tokens.{Row, byte_order_mark, blank, line_comment, block_comment, tool_directive, token, HasForm, Inside, nothing, byte, pair, Piece, Place, Leads, place_after, text_start, token_of, tokens_of}
 use Rattle.vhdl_spec.specs.Units.{token_at, AreTokensOf}
 use Rattle.vhdl_runs.specs.Calls.{is_string}
 
@@ -52,36 +50,3 @@ long_from text place (piece ∷ pieces) end leads =
 
 pub strings_long : (text : List ℕ) (tokens : Tokens) → AreTokensOf text tokens → AreLong tokens.list
 strings_long text tokens are = subst AreLong (sym are.2.list) (long_from text text_start are.0 are.1.end are.1.leads)
-
--- ## Comments
-
-abbrev no_span : Span
-no_span = record { start = 0; end = 0 }
-
-abbrev pub comment_at : List Span → ℕ → Span
-comment_at comments at = slice_index_or comments at no_span
-
-abbrev pub AreSpans : ℕ → List Span → Type 0
-AreSpans size comments = (at : ℕ) → at < length comments → ((comment_at comments at).start ≤ (comment_at comments at).end) × ((comment_at comments at).end ≤ size)
-
-span_more : (size : ℕ) (first : Span) (rest : List Span) → (first.start ≤ first.end) × (first.end ≤ size) → AreSpans size rest → AreSpans size (first ∷ rest)
-span_more size first rest lies later zero within = lies
-span_more size first rest lies later (suc at) within = later at (omega arith)
-
-span_row : (size : ℕ) (row : Row) (start end : ℕ) (rest : List Span) → start ≤ end → end ≤ size → AreSpans size rest → AreSpans size (comment_of row start end ++ rest)
-span_row size byte_order_mark start end rest some within later = later
-span_row size blank start end rest some within later = later
-span_row size line_comment start end rest some within later = span_more size (record { start = start; end = end }) rest (some, within) later
-span_row size block_comment start end rest some within later = later
-span_row size tool_directive start end rest some within later = later
-span_row size (token kind) start end rest some within later = later
-
-span_from : (text : List ℕ) (place : Place) (pieces : List Piece) (end : Place) → Leads text place pieces end → AreSpans (length text) (comments_of pieces)
-span_from text place [] end leads = λ at within. absurd (omega arith)
-span_from text place (piece ∷ pieces) end leads =
-    let starts : piece.start ≡ place.at = leads.0.starts in
-    let some : place.at < piece.end = leads.0.longest.some in
-    span_row (length text) piece.row piece.start piece.end (comments_of pieces) (omega arith) leads.0.longest.within (span_from text (place_after place piece) pieces end leads.1)
-
-pub comments_lie : (text : List ℕ) (tokens : Tokens) → AreTokensOf text tokens → AreSpans (length text) tokens.comments
-comments_lie text tokens are = subst (AreSpans (length text)) (sym are.2.comments) (span_from text text_start are.0 are.1.end are.1.leads)

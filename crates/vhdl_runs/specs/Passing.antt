@@ -1,7 +1,8 @@
 -- Tokens of which the roles alone tell that no case is called there.
-use Rattle.std.specs.Prelude.{◌≡◌, ℕ, ◌+◌, ◌<◌, ◌≤◌, Bool, true, false, ◌&&◌, List}
+use Rattle.std.specs.Prelude.{ℕ, ◌+◌, Bool, true, false, ◌&&◌, List}
 use Rattle.base.specs.declared.design.Role.{Role}
 use Rattle.base.specs.declared.design.Role.TheVariants.{Other}
+use Rattle.vhdl_spec.specs.Passing.{HasPassedOver, NonePasses}
 use Rattle.vhdl_spec.specs.Units.{is_closing, is_opening, role_at}
 
 -- a token that no rule names, as a string
@@ -15,10 +16,8 @@ may_call roles at = is_opening (role_at roles (at + 1)) && is_other (role_at rol
 
 -- no token from one up to another is followed by `(`, such a token and `)`
 abbrev pub IsUncalled : List Role → ℕ → ℕ → Type 0
-IsUncalled roles from end = (at : ℕ) → from ≤ at → at < end → may_call roles at ≡ false
+IsUncalled roles from end = NonePasses (may_call roles) from end
 
 -- a walk that goes up to a place at most has passed over tokens that they don't follow
-pub record HasPassed (roles : List Role) (from end at : ℕ) : Type 0 where
-  pub reaches : from ≤ at
-  pub within : at ≤ end
-  pub none : IsUncalled roles from at
+abbrev pub HasPassed : List Role → ℕ → ℕ → ℕ → Type 0
+HasPassed roles from end at = HasPassedOver (may_call roles) from end at

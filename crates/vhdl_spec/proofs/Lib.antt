@@ -15,3 +15,6 @@ pub mod SomeTests
 pub mod Pigeons
 pub mod Seeing
 pub mod Backwards
+pub mod Comments
+pub mod Walks
+pub mod PassingSteps

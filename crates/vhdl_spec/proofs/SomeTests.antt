@@ -1,5 +1,5 @@
 -- Tests that are joined, and tests of some element.
-use Rattle.std.proofs.Common.{◌≡◌, suc, Bool, true, false, ◌&&◌, ◌||◌, ◌⊎◌, inl, inr, List, [], ◌∷◌, Contains, refl, ap, arith}
+use Rattle.std.proofs.Common.{◌≡◌, suc, Bool, true, false, ◌&&◌, ◌||◌, ◌⊎◌, inl, inr, List, [], ◌∷◌, Contains, refl, sym, ap, ◌∙◌, arith}
 use Rattle.std.specs.List.{list_any}
 
 pub or_cases : (a b : Bool) → (a || b) ≡ true → (a ≡ true) ⊎ (b ≡ true)
@@ -20,6 +20,26 @@ and_cases false b is = let no : ⊥ = cc in absurd no
 pub and_both : (a b : Bool) → a ≡ true → b ≡ true → (a && b) ≡ true
 and_both true b first second = second
 and_both false b first second = let no : ⊥ = cc in absurd no
+
+pub and_false : (a : Bool) → (a && false) ≡ false
+and_false true = refl
+and_false false = refl
+
+pub and_true : (a : Bool) → (a && true) ≡ a
+and_true true = refl
+and_true false = refl
+
+pub and_swap : (a b : Bool) → (a && b) ≡ (b && a)
+and_swap true b = sym (and_true b)
+and_swap false b = sym (and_false b)
+
+pub or_none : (a : Bool) → (a || false) ≡ a
+or_none true = refl
+or_none false = refl
+
+pub or_group : (a b c : Bool) → ((a || b) || c) ≡ (a || (b || c))
+or_group true b c = refl
+or_group false b c = refl
 
 pub Contains-later : {X : Type 0} (x y : X) (xs : List X) → Contains xs y → Contains (x ∷ xs) y
 Contains-later x y xs (k, within, is) = (suc k, omega arith, is)
@@ -44,3 +64,11 @@ some_of {X} p (x ∷ xs) some =
       | inl here ↦ (x, Contains-first x xs, here)
       | inr later ↦ let found = some_of p xs later in (found.0, Contains-later x found.0 xs found.1, found.2)
     ]
+
+pub any_same : {X : Type 0} (p q : X → Bool) (xs : List X) → ((x : X) → p x ≡ q x) → list_any p xs ≡ list_any q xs
+any_same p q [] same = refl
+any_same p q (x ∷ xs) same = ap (λ (b : Bool). b || list_any p xs) (same x) ∙ ap (λ (b : Bool). q x || b) (any_same p q xs same)
+
+pub any_never : {X : Type 0} (xs : List X) → list_any (λ (x : X). false) xs ≡ false
+any_never [] = refl
+any_never (x ∷ xs) = any_never xs

@@ -4,6 +4,7 @@ pub mod Tokens
 pub mod Units
 pub mod Scans
 pub mod UnitPlaces
+pub mod Passing
 pub mod References
 pub mod Visibility
 pub mod Dependencies

@@ -301,6 +301,7 @@ fn run_sources<T: Tree, D: Disk, P: Procs, O: Sink, R: Reports>(
     ensures same { P.answer procs.new ≡ P.answer procs.old }
     ensures sources { T.file tree.new ≡ T.file tree.old }
     ensures listed { T.listed tree.new ≡ T.listed tree.old }
+    ensures tree_kept { T.kept tree.new ≡ T.kept tree.old }
     ensures asked { T.tells →
         let paths = project_paths (T.file tree.old) (T.listed tree.old) in
         (T.asked tree.new ≡ T.asked tree.old ++ paths)
@@ -357,6 +358,7 @@ fn run_setting<T: Tree, D: Disk, P: Procs, O: Sink, R: Reports>(
     ensures same { P.answer procs.new ≡ P.answer procs.old }
     ensures sources { T.file tree.new ≡ T.file tree.old }
     ensures listed { T.listed tree.new ≡ T.listed tree.old }
+    ensures tree_kept { T.kept tree.new ≡ T.kept tree.old }
     ensures asked { T.tells →
         let paths = project_paths (T.file tree.old) (T.listed tree.old) in
         (T.asked tree.new ≡ T.asked tree.old ++ paths)
@@ -445,6 +447,7 @@ pub fn run_vunit<I: Source, T: Tree, D: Disk, P: Procs, O: Sink, R: Reports>(
     ensures same { P.answer procs.new ≡ P.answer procs.old }
     ensures sources { T.file tree.new ≡ T.file tree.old }
     ensures listed { T.listed tree.new ≡ T.listed tree.old }
+    ensures tree_kept { T.kept tree.new ≡ T.kept tree.old }
     ensures kept { P.tells →
         (P.journal procs.new
         ≡ P.journal procs.old ++ since (P.journal procs.old) (P.journal procs.new)) }

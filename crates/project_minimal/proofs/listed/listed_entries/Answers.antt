@@ -10,24 +10,22 @@ loop-text-init c = record {
   entries = c.in_ok-entries.ensures.items ∙ sym (listed_no_text 0 c.as_slice-files.result.now);
 }
 
-pub bounds-files-position : goal.bounds-files-position
-bounds-files-position c =
+-- there is a file at the position of the text
+low : (c : goal.After-len-position) → c.len-position.result < length c.as_slice-files.result.now
+low c =
     let whole : c.loop-text.yielded ++ (c.in-Some.text ∷ into_iter_items c.next.new.self) ≡ c.args.texts = ap (λ (rest : List (List ℕ)). c.loop-text.yielded ++ rest) (sym c.in-Some.ensures.steps.0) ∙ c.loop-text.invariant.rest in
     (next_file c.args.project.now c.args.texts c.requires.project c.requires.few c.requires.texts c.as_slice-files.result.now c.loop-text.yielded (into_iter_items c.next.new.self) c.in-Some.text c.loop-text.entries.items c.len-position.result c.as_slice-files.ensures c.loop-text.invariant.entries whole (omega (arith, c.len-position.ensures))).0
 
+pub bounds-files-position : goal.bounds-files-position
+bounds-files-position c = low c
+
 pub overflow_cast-position : goal.overflow_cast-position
 overflow_cast-position c =
-    let low : c.len-position.result < length c.as_slice-files.result.now =
-    let whole : c.loop-text.yielded ++ (c.in-Some.text ∷ into_iter_items c.next.new.self) ≡ c.args.texts = ap (λ (rest : List (List ℕ)). c.loop-text.yielded ++ rest) (sym c.in-Some.ensures.steps.0) ∙ c.loop-text.invariant.rest in
-    (next_file c.args.project.now c.args.texts c.requires.project c.requires.few c.requires.texts c.as_slice-files.result.now c.loop-text.yielded (into_iter_items c.next.new.self) c.in-Some.text c.loop-text.entries.items c.len-position.result c.as_slice-files.ensures c.loop-text.invariant.entries whole (omega (arith, c.len-position.ensures))).0 in
-    omega (arith, low, c.requires.few, ap length c.as_slice-files.ensures)
+    omega (arith, low c, c.requires.few, ap length c.as_slice-files.ensures)
 
 pub offset_bounds-files-position : goal.offset_bounds-files-position
 offset_bounds-files-position c =
-    let low : c.len-position.result < length c.as_slice-files.result.now =
-    let whole : c.loop-text.yielded ++ (c.in-Some.text ∷ into_iter_items c.next.new.self) ≡ c.args.texts = ap (λ (rest : List (List ℕ)). c.loop-text.yielded ++ rest) (sym c.in-Some.ensures.steps.0) ∙ c.loop-text.invariant.rest in
-    (next_file c.args.project.now c.args.texts c.requires.project c.requires.few c.requires.texts c.as_slice-files.result.now c.loop-text.yielded (into_iter_items c.next.new.self) c.in-Some.text c.loop-text.entries.items c.len-position.result c.as_slice-files.ensures c.loop-text.invariant.entries whole (omega (arith, c.len-position.ensures))).0 in
-    omega (arith, low, c.requires.few, ap length c.as_slice-files.ensures)
+    omega (arith, low c, c.requires.few, ap length c.as_slice-files.ensures)
 
 pub loop-text-preserved : goal.loop-text-preserved
 loop-text-preserved c =

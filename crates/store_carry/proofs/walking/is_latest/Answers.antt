@@ -5,20 +5,17 @@ use Rattle.store_carry.proofs.LatestRows.{is_latest_none, is_latest_some, mark_a
 use Rattle.store_carry.proofs.PlacedRows.{row_here}
 use Rattle.store_carry.proofs.walking.is_latest.Goals as goal
 
+mark_is : (c : goal.After-index) → c.index.result.now.name ≡ get_or c.args.shelf.now.latest.marks c.args.number 0
+mark_is c = ap (λ (r : RecordRow). r.name) (row_here c.args.held.now.pieces c.args.shelf.now c.requires.shelf.placed c.args.number c.requires.number c.index.result.now c.index.ensures) ∙ sym (mark_at c.args.held.now.pieces c.args.shelf.now c.requires.shelf.placed c.args.number c.requires.number c.args.number c.requires.number)
+
 pub returns-in-Some : goal.returns-in-Some
 returns-in-Some c =
-    let payloads = c.args.held.now.pieces in
-    let shelf = c.args.shelf.now in
-    let marks = shelf.latest.marks in
-    let mark : c.index.result.now.name ≡ get_or marks c.args.number 0 = ap (λ (r : RecordRow). r.name) (row_here payloads shelf c.requires.shelf.placed c.args.number c.requires.number c.index.result.now c.index.ensures) ∙ sym (mark_at payloads shelf c.requires.shelf.placed c.args.number c.requires.number c.args.number c.requires.number) in
-    is_latest_some payloads shelf c.requires.shelf.placed c.args.number c.requires.number c.in-Some.last (eqb c.in-Some.last c.args.number)
-    (subst (λ (m : ℕ). IsLastWith marks m (length marks) (Some c.in-Some.last)) mark c.in-Some.ensures) refl
+    let marks = c.args.shelf.now.latest.marks in
+    is_latest_some c.args.held.now.pieces c.args.shelf.now c.requires.shelf.placed c.args.number c.requires.number c.in-Some.last (eqb c.in-Some.last c.args.number)
+    (subst (λ (m : ℕ). IsLastWith marks m (length marks) (Some c.in-Some.last)) (mark_is c) c.in-Some.ensures) refl
 
 pub returns-in-None : goal.returns-in-None
 returns-in-None c =
-    let payloads = c.args.held.now.pieces in
-    let shelf = c.args.shelf.now in
-    let marks = shelf.latest.marks in
-    let mark : c.index.result.now.name ≡ get_or marks c.args.number 0 = ap (λ (r : RecordRow). r.name) (row_here payloads shelf c.requires.shelf.placed c.args.number c.requires.number c.index.result.now c.index.ensures) ∙ sym (mark_at payloads shelf c.requires.shelf.placed c.args.number c.requires.number c.args.number c.requires.number) in
-    is_latest_none payloads shelf c.requires.shelf.placed c.args.number c.requires.number
-    (subst (λ (m : ℕ). IsLastWith marks m (length marks) None) mark c.in-None.ensures)
+    let marks = c.args.shelf.now.latest.marks in
+    is_latest_none c.args.held.now.pieces c.args.shelf.now c.requires.shelf.placed c.args.number c.requires.number
+    (subst (λ (m : ℕ). IsLastWith marks m (length marks) None) (mark_is c) c.in-None.ensures)

@@ -10,25 +10,21 @@ use Rattle.store_carry.proofs.PlacedRows.{kept_here, products_count, records_cou
 use Rattle.store_carry.proofs.Spelled.{deps_numbered, deps_planned, if_ok, request_spelled}
 use Rattle.store_carry.proofs.writing.payload_of_request.Goals as goal
 
+are : (c : goal.After-deps_of) → AreNumbers (length (placed_shelf c.args.held.now.pieces c.args.shelf.now).products) c.args.products.now
+are c = subst (λ (n : ℕ). AreNumbers n c.args.products.now) (sym (products_count c.args.held.now.pieces c.args.shelf.now c.requires.shelf.placed)) c.requires.products
+
+low : (c : goal.After-deps_of) → All (λ dep. dep < length (placed_shelf c.args.held.now.pieces c.args.shelf.now).products) c.deps_of.result
+low c = λ k d l. (let b = c.deps_of.ensures.there k d l in omega (arith, b, products_count c.args.held.now.pieces c.args.shelf.now c.requires.shelf.placed))
+
 pub new_numbers-requires-clause-there : goal.new_numbers-requires-clause-there
 new_numbers-requires-clause-there c =
-    let payloads = c.args.held.now.pieces in
-    let shelf = c.args.shelf.now in
-    let there = placed_shelf payloads shelf in
-    let count = products_count payloads shelf c.requires.shelf.placed in
-    let are = subst (λ (n : ℕ). AreNumbers n c.args.products.now) (sym count) c.requires.products in
-    let low : All (λ dep. dep < length there.products) c.deps_of.result = λ k d l. (let b = c.deps_of.ensures.there k d l in omega (arith, b, count)) in
-    deps_planned there c.requires.shelf.once c.args.products.now are c.deps_of.result low (shelf_record_at there.records c.args.step.row).asked.below c.deps_of.ensures.below c.requires.step.below
+    let there = placed_shelf c.args.held.now.pieces c.args.shelf.now in
+    deps_planned there c.requires.shelf.once c.args.products.now (are c) c.deps_of.result (low c) (shelf_record_at there.records c.args.step.row).asked.below c.deps_of.ensures.below c.requires.step.below
 
 numbers_are : (c : goal.After-drop-deps-inside) → c.as_slice.result.now ≡ map (number_of_built (numbered_products (placed_shelf c.args.held.now.pieces c.args.shelf.now) c.args.products.now.numbers)) (shelf_record_at (placed_shelf c.args.held.now.pieces c.args.shelf.now).records c.args.step.row).asked.below
 numbers_are c =
-    let payloads = c.args.held.now.pieces in
-    let shelf = c.args.shelf.now in
-    let there = placed_shelf payloads shelf in
-    let count = products_count payloads shelf c.requires.shelf.placed in
-    let are = subst (λ (n : ℕ). AreNumbers n c.args.products.now) (sym count) c.requires.products in
-    let low : All (λ dep. dep < length there.products) c.deps_of.result = λ k d l. (let b = c.deps_of.ensures.there k d l in omega (arith, b, count)) in
-    c.as_slice.ensures ∙ deps_numbered there c.requires.shelf.once c.args.products.now are c.deps_of.result low c.in_ok-deps.deps (shelf_record_at there.records c.args.step.row).asked.below c.deps_of.ensures.below c.in_ok-deps.ensures.are
+    let there = placed_shelf c.args.held.now.pieces c.args.shelf.now in
+    c.as_slice.ensures ∙ deps_numbered there c.requires.shelf.once c.args.products.now (are c) c.deps_of.result (low c) c.in_ok-deps.deps (shelf_record_at there.records c.args.step.row).asked.below c.deps_of.ensures.below c.in_ok-deps.ensures.are
 
 pub returns-clause-bytes : goal.returns-clause-bytes
 returns-clause-bytes c =

@@ -9,6 +9,12 @@ use Rattle.store_holdings.proofs.Adding.{adds_shelf}
 use Rattle.store_shelf.proofs.Longer.{shelf_placed_still, shelf_same_still}
 use Rattle.store_holdings.proofs.additions.put_held.Goals as goal
 
+piece_is : (c : goal.After-put) → nth_payload c.put.new.self.pieces c.len-at.result ≡ c.args.piece
+piece_is c = ap (λ (ps : List (List ℕ)). nth_payload ps c.len-at.result) c.put.ensures.pieces ∙ get_or_at c.args.held.now.pieces c.args.piece [] [] c.len-at.result (sym c.len-at.ensures)
+
+whole_is : (c : goal.After-put) → placed_shelf c.put.new.self.pieces c.args.shelf.now ≡ request_shelf_of c.args.held.now.payloads
+whole_is c = shelf_same_still c.args.held.now.pieces c.put.new.self.pieces c.args.shelf.now (keeps_more c.args.held.now.pieces (c.args.piece ∷ []) c.put.new.self.pieces c.put.ensures.pieces) c.requires.is.are ∙ c.requires.is.is
+
 pub put_request-requires-clause-shelf : goal.put_request-requires-clause-shelf
 put_request-requires-clause-shelf c =
     shelf_placed_still c.args.held.now.pieces c.put.new.self.pieces c.args.shelf.now (keeps_more c.args.held.now.pieces (c.args.piece ∷ []) c.put.new.self.pieces c.put.ensures.pieces) c.requires.is.are
@@ -16,38 +22,23 @@ put_request-requires-clause-shelf c =
 pub put_request-requires-clause-request : goal.put_request-requires-clause-request
 put_request-requires-clause-request c =
     let payloads : List (List ℕ) = c.args.held.now.payloads in
-    let pieces : List (List ℕ) = c.args.held.now.pieces in
-    let now : List (List ℕ) = c.put.new.self.pieces in
-    let shelf = c.args.shelf.now in
-    let piece : nth_payload c.put.new.self.pieces c.len-at.result ≡ c.args.piece = ap (λ (ps : List (List ℕ)). nth_payload ps c.len-at.result) c.put.ensures.pieces ∙ get_or_at pieces c.args.piece [] [] c.len-at.result (sym c.len-at.ensures) in
-    let whole : placed_shelf c.put.new.self.pieces c.args.shelf.now ≡ request_shelf_of c.args.held.now.payloads = shelf_same_still pieces now shelf (keeps_more pieces (c.args.piece ∷ []) now c.put.ensures.pieces) c.requires.is.are ∙ c.requires.is.is in
-    subst (λ (s : RequestShelf). IsRequest s (request_in_ranges (nth_payload c.put.new.self.pieces c.len-at.result) c.args.addition.draft)) (sym whole)
-    (subst (λ (bs : List ℕ). IsRequest (request_shelf_of payloads) (request_in_ranges bs c.args.addition.draft)) (sym piece) c.requires.ready.request)
+    subst (λ (s : RequestShelf). IsRequest s (request_in_ranges (nth_payload c.put.new.self.pieces c.len-at.result) c.args.addition.draft)) (sym (whole_is c))
+    (subst (λ (bs : List ℕ). IsRequest (request_shelf_of payloads) (request_in_ranges bs c.args.addition.draft)) (sym (piece_is c)) c.requires.ready.request)
 
 pub put_request-requires-clause-numbers : goal.put_request-requires-clause-numbers
 put_request-requires-clause-numbers c =
     let payloads : List (List ℕ) = c.args.held.now.payloads in
-    let pieces : List (List ℕ) = c.args.held.now.pieces in
-    let now : List (List ℕ) = c.put.new.self.pieces in
-    let shelf = c.args.shelf.now in
-    let piece : nth_payload c.put.new.self.pieces c.len-at.result ≡ c.args.piece = ap (λ (ps : List (List ℕ)). nth_payload ps c.len-at.result) c.put.ensures.pieces ∙ get_or_at pieces c.args.piece [] [] c.len-at.result (sym c.len-at.ensures) in
-    let whole : placed_shelf c.put.new.self.pieces c.args.shelf.now ≡ request_shelf_of c.args.held.now.payloads = shelf_same_still pieces now shelf (keeps_more pieces (c.args.piece ∷ []) now c.put.ensures.pieces) c.requires.is.are ∙ c.requires.is.is in
-    subst (λ (s : RequestShelf). AreTextNumbers s.texts (request_in_ranges (nth_payload c.put.new.self.pieces c.len-at.result) c.args.addition.draft) c.args.addition.numbers) (sym whole)
-    (subst (λ (bs : List ℕ). AreTextNumbers (request_shelf_of payloads).texts (request_in_ranges bs c.args.addition.draft) c.args.addition.numbers) (sym piece) c.requires.ready.numbers)
+    subst (λ (s : RequestShelf). AreTextNumbers s.texts (request_in_ranges (nth_payload c.put.new.self.pieces c.len-at.result) c.args.addition.draft) c.args.addition.numbers) (sym (whole_is c))
+    (subst (λ (bs : List ℕ). AreTextNumbers (request_shelf_of payloads).texts (request_in_ranges bs c.args.addition.draft) c.args.addition.numbers) (sym (piece_is c)) c.requires.ready.numbers)
 
 pub returns-clause-is : goal.returns-clause-is
 returns-clause-is c =
     let payloads : List (List ℕ) = c.args.held.now.payloads in
-    let pieces : List (List ℕ) = c.args.held.now.pieces in
-    let now : List (List ℕ) = c.put.new.self.pieces in
-    let shelf = c.args.shelf.now in
-    let piece : nth_payload c.put.new.self.pieces c.len-at.result ≡ c.args.piece = ap (λ (ps : List (List ℕ)). nth_payload ps c.len-at.result) c.put.ensures.pieces ∙ get_or_at pieces c.args.piece [] [] c.len-at.result (sym c.len-at.ensures) in
-    let whole : placed_shelf c.put.new.self.pieces c.args.shelf.now ≡ request_shelf_of c.args.held.now.payloads = shelf_same_still pieces now shelf (keeps_more pieces (c.args.piece ∷ []) now c.put.ensures.pieces) c.requires.is.are ∙ c.requires.is.is in
     record {
       are = c.put_request.ensures.are;
       is = c.put_request.ensures.is
-          ∙ ap (λ (s : RequestShelf). with_request s (request_in_ranges (nth_payload c.put.new.self.pieces c.len-at.result) c.args.addition.draft)) whole
-          ∙ ap (λ (bs : List ℕ). with_request (request_shelf_of payloads) (request_in_ranges bs c.args.addition.draft)) piece
+          ∙ ap (λ (s : RequestShelf). with_request s (request_in_ranges (nth_payload c.put.new.self.pieces c.len-at.result) c.args.addition.draft)) (whole_is c)
+          ∙ ap (λ (bs : List ℕ). with_request (request_shelf_of payloads) (request_in_ranges bs c.args.addition.draft)) (piece_is c)
           ∙ sym (adds_shelf payloads c.args.shelf.now.names.keys c.args.piece c.args.addition (record { read = c.requires.ready.read; request = c.requires.ready.request; name = c.requires.ready.name; numbers = c.requires.ready.numbers }))
           ∙ ap request_shelf_of (sym c.put.ensures.payloads);
     }

@@ -20,9 +20,10 @@ use Rattle.vhdl_spec.specs.Dependencies.{LinkUnit, depends_on, edges_of, first_m
 use Rattle.vhdl_outlines.specs.declared.outlines.FileOutline.{FileOutline}
 use Rattle.vhdl_outlines.specs.Outlines.{IsOutlineOf, OutlineLiesIn}
 use Rattle.vhdl_outlines.proofs.OutlineLemmas.{got_file}
+use Rattle.order_spec.proofs.Finds.{filter_below}
 use Rattle.vhdl_graph.specs.Linking.{StandAll, unit_lacks, refers_from}
 use Rattle.vhdl_graph.proofs.IndexLemmas.{all_units, fault_on, files_after, files_more, no_file}
-use Rattle.vhdl_graph.proofs.FileLemmas.{any_map, below_none, file_missing, filter_below, in_file, map_below, missing_of_file, none_missing, row_is, stand_all}
+use Rattle.vhdl_graph.proofs.FileLemmas.{any_map, below_none, file_missing, in_file, map_below, missing_of_file, none_missing, row_is, stand_all}
 use Rattle.vhdl_graph.proofs.UnitLemmas.{parts_map}
 use Rattle.vhdl_graph.proofs.linking.link_files.Goals as goal
 

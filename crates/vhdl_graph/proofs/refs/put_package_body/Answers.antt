@@ -2,8 +2,9 @@
 use Rattle.std.proofs.Common.{◌≡◌, ◌∙◌, ◌&&◌, ℕ, Bool, true, false, sym, ap}
 use Rattle.std.proofs.lemmas.Result.{on_ok_weaker}
 use Rattle.vhdl_spec.specs.Dependencies.{is_body}
+use Rattle.vhdl_spec.proofs.SomeTests.{and_false, and_true}
 use Rattle.vhdl_graph.specs.Rows.{has_package, stands_at}
-use Rattle.vhdl_graph.proofs.RowLemmas.{added_none, added_same, and_false, and_true}
+use Rattle.vhdl_graph.proofs.RowLemmas.{added_none, added_same}
 use Rattle.vhdl_graph.proofs.refs.put_package_body.Goals as goal
 
 pub returns-then-is_package : goal.returns-then-is_package

@@ -2,10 +2,11 @@
 use Rattle.std.proofs.Common.{◌≡◌, ◌∙◌, ◌&&◌, ◌||◌, ℕ, Bool, List, sym, ap, refl}
 use Rattle.std.proofs.lemmas.Result.{on_ok_weaker}
 use Rattle.vhdl_spec.specs.Dependencies.{is_body, is_given_architecture}
+use Rattle.vhdl_spec.proofs.SomeTests.{or_none}
 use Rattle.vhdl_graph.specs.Keys.{DesignUnitKey, primary_key}
 use Rattle.vhdl_graph.specs.Meanings.{names_in}
 use Rattle.vhdl_graph.specs.Rows.{has_package, is_named_at, stands_at}
-use Rattle.vhdl_graph.proofs.RowLemmas.{added_both, added_same, or_none}
+use Rattle.vhdl_graph.proofs.RowLemmas.{added_both, added_same}
 use Rattle.vhdl_graph.proofs.MeaningLemmas.{names_parts}
 use Rattle.vhdl_graph.proofs.refs.put_ref.Goals as goal
 

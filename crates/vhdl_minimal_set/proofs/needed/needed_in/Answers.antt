@@ -1,10 +1,10 @@
 -- By what was taken.
 use Rattle.std.proofs.Common.{◌≡◌, ◌∙◌, ◌&&◌, ◌||◌, Bool, true, nat_lt, length, ap, arith}
 use Rattle.std.proofs.lemmas.Bool.{lt-ltb}
+use Rattle.vhdl_spec.proofs.SomeTests.{and_true}
 use Rattle.vhdl_minimal_set.specs.MinimalSet.{is_tested}
 use Rattle.vhdl_minimal_set.specs.Needing.{count_of}
 use Rattle.vhdl_minimal_set.proofs.Least.{decided}
-use Rattle.vhdl_minimal_set.proofs.Tests.{and_all}
 use Rattle.vhdl_minimal_set.proofs.Walk.{taken_within}
 use Rattle.vhdl_minimal_set.proofs.needed.needed_in.Goals as goal
 
@@ -20,5 +20,5 @@ returns c = λ said known edges at low.
     (λ other within.
     let under : nat_lt other c.len-count.result ≡ true = lt-ltb other c.len-count.result (omega (arith, within, size, count)) in
     c.in_ok-take_tested.ensures.takes other ∙ ap (λ (b : Bool). b || (is_tested c.args.tests.now other && nat_lt other c.len-count.result)) (c.none_taken-taken.ensures.none other)
-    ∙ ap (λ (b : Bool). is_tested c.args.tests.now other && b) under ∙ and_all (is_tested c.args.tests.now other))
+    ∙ ap (λ (b : Bool). is_tested c.args.tests.now other && b) under ∙ and_true (is_tested c.args.tests.now other))
     (c.in_ok-take_on.ensures.grown said known edges) at (omega (arith, low, size))

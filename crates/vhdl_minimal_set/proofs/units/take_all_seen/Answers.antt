@@ -1,16 +1,17 @@
 -- One file more.
 use Rattle.std.proofs.Common.{◌==◌, ◌&&◌, ◌+◌, ◌∙◌, Bool, take, ap}
 use Rattle.std.proofs.lemmas.List.Folds.{list_any_more}
+use Rattle.vhdl_spec.proofs.SomeTests.{and_false}
 use Rattle.vhdl_minimal_set.specs.Needing.{count_of, looks}
 use Rattle.vhdl_minimal_set.specs.Suppliers.{has_file}
 use Rattle.vhdl_minimal_set.proofs.TakingLemmas.{grows_none, grows_on, takes_none, takes_on}
-use Rattle.vhdl_minimal_set.proofs.Tests.{and_none, and_or}
+use Rattle.vhdl_minimal_set.proofs.Tests.{and_or}
 use Rattle.vhdl_minimal_set.proofs.units.take_all_seen.Goals as goal
 
 pub loop-file-init : goal.loop-file-init
 loop-file-init c = record {
   grows = grows_none (count_of c.args.tables) c.args.taken.now c.requires.before;
-  takes = takes_none _ c.args.taken.now (λ at. and_none (looks c.args.tables c.args.id at));
+  takes = takes_none _ c.args.taken.now (λ at. and_false (looks c.args.tables c.args.id at));
 }
 
 pub take_seen-requires-clause-before : goal.take_seen-requires-clause-before

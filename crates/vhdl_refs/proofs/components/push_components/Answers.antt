@@ -3,7 +3,7 @@ use Rattle.std.proofs.Common.{◌++◌, ◌+◌, ℕ, List, map, ◌∙◌, ap, 
 use Rattle.vhdl_refs.specs.Components.{is_component, name_place}
 use Rattle.vhdl_refs.proofs.ComponentSteps.{skip_components}
 use Rattle.vhdl_refs.proofs.DotSteps.{none_so_far}
-use Rattle.vhdl_refs.proofs.PlaceSteps.{places_none, walk_more}
+use Rattle.vhdl_spec.proofs.Walks.{places_none, walk_more}
 use Rattle.vhdl_refs.proofs.components.push_components.Goals as goal
 
 pub loop-at-init : goal.loop-at-init

@@ -1,7 +1,7 @@
 -- One token more.
 use Rattle.vhdl_spec.specs.References.{is_context_ref}
 use Rattle.vhdl_refs.specs.Places.{ref_place}
-use Rattle.vhdl_refs.proofs.PlaceSteps.{walk_more}
+use Rattle.vhdl_spec.proofs.Walks.{walk_more}
 use Rattle.vhdl_refs.proofs.context.push_context_places.Goals as goal
 
 pub loop-at-preserved : goal.loop-at-preserved

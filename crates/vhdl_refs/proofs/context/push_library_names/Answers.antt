@@ -3,7 +3,7 @@ use Rattle.std.proofs.Common.{◌≡◌, ◌++◌, ◌∷◌, [], List, cond, �
 use Rattle.base.specs.declared.design.Role.{Role}
 use Rattle.vhdl_spec.specs.Units.{name_of, roles_of}
 use Rattle.vhdl_spec.specs.References.{is_library_name}
-use Rattle.vhdl_refs.proofs.PlaceSteps.{walk_more}
+use Rattle.vhdl_spec.proofs.Walks.{walk_more}
 use Rattle.vhdl_refs.proofs.context.push_library_names.Goals as goal
 
 pub loop-at-preserved : goal.loop-at-preserved

@@ -4,7 +4,7 @@ use Rattle.vhdl_spec.specs.References.{is_reference}
 use Rattle.vhdl_refs.specs.declared.places.RefPlace.{RefPlace}
 use Rattle.vhdl_refs.specs.Places.{ref_place}
 use Rattle.vhdl_refs.proofs.DotSteps.{none_so_far, skip_references}
-use Rattle.vhdl_refs.proofs.PlaceSteps.{places_none, walk_more}
+use Rattle.vhdl_spec.proofs.Walks.{places_none, walk_more}
 use Rattle.vhdl_refs.proofs.named.push_places.Goals as goal
 
 pub loop-at-init : goal.loop-at-init

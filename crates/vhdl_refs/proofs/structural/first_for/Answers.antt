@@ -2,7 +2,7 @@
 use Rattle.std.proofs.Common.{ℕ, ap, sym, ◌∙◌}
 use Rattle.vhdl_spec.specs.Units.{role_at}
 use Rattle.vhdl_spec.specs.References.{is_for}
-use Rattle.vhdl_refs.proofs.PlaceSteps.{first_none, first_not_yet, first_here}
+use Rattle.vhdl_spec.proofs.Walks.{first_none, first_not_yet, first_here}
 use Rattle.vhdl_refs.proofs.structural.first_for.Goals as goal
 
 pub loop-at-init : goal.loop-at-init

@@ -2,7 +2,8 @@
 use Rattle.std.proofs.Common.{◌++◌, ◌+◌, ℕ, List, ◌∙◌, ap, sym, arith}
 use Rattle.vhdl_spec.specs.References.{is_use_of_all}
 use Rattle.vhdl_refs.proofs.DotSteps.{none_so_far, skip_uses}
-use Rattle.vhdl_refs.proofs.PlaceSteps.{places_all_more, places_none}
+use Rattle.vhdl_spec.proofs.Walks.{places_none}
+use Rattle.vhdl_refs.proofs.PlaceSteps.{places_all_more}
 use Rattle.vhdl_refs.proofs.uses.push_uses.Goals as goal
 
 pub loop-at-init : goal.loop-at-init

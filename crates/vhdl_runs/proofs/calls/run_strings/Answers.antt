@@ -5,7 +5,7 @@ use Rattle.base.specs.declared.lexical.Token.{Token}
 use Rattle.vhdl_spec.specs.Units.{token_at}
 use Rattle.vhdl_runs.specs.Calls.{is_run_call}
 use Rattle.vhdl_runs.specs.Runs.{IsStringIn}
-use Rattle.vhdl_runs.proofs.FirstPlaces.{places_none, walk_more}
+use Rattle.vhdl_spec.proofs.Walks.{places_none, walk_more}
 use Rattle.vhdl_runs.proofs.Passed.{skip_calls}
 use Rattle.vhdl_runs.proofs.calls.run_strings.Goals as goal
 

@@ -3,7 +3,7 @@ use Rattle.std.proofs.Common.{◌<◌, ◌∙◌, length, ap, sym, arith}
 use Rattle.vhdl_spec.specs.Units.{is_opening, is_closing}
 use Rattle.vhdl_runs.specs.Calls.{is_level_after}
 use Rattle.vhdl_runs.proofs.Counted.{counted, level_is, level_not}
-use Rattle.vhdl_runs.proofs.FirstPlaces.{first_here, first_not_yet}
+use Rattle.vhdl_spec.proofs.Walks.{first_here, first_not_yet}
 use Rattle.vhdl_runs.proofs.runner.closing_of.Goals as goal
 
 pub loop-at-preserved : goal.loop-at-preserved

@@ -1,7 +1,7 @@
 -- The first is the one here, where there was none before.
 use Rattle.std.proofs.Common.{sym, ◌∙◌}
 use Rattle.vhdl_runs.specs.Calls.{opens_generics}
-use Rattle.vhdl_runs.proofs.FirstPlaces.{first_none, first_not_yet, first_here}
+use Rattle.vhdl_spec.proofs.Walks.{first_none, first_not_yet, first_here}
 use Rattle.vhdl_runs.proofs.runner.first_generics.Goals as goal
 
 pub loop-at-init : goal.loop-at-init

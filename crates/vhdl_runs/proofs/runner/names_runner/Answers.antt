@@ -1,7 +1,7 @@
 -- The word is here, or it isn't.
 use Rattle.std.proofs.Common.{ℕ, List, codes, is_some, sym, ◌∙◌, ap}
 use Rattle.vhdl_runs.specs.Calls.{is_word_at}
-use Rattle.vhdl_runs.proofs.FirstPlaces.{first_here, first_not_yet}
+use Rattle.vhdl_spec.proofs.Walks.{first_here, first_not_yet}
 use Rattle.vhdl_runs.proofs.runner.names_runner.Goals as goal
 
 pub loop-at-preserved : goal.loop-at-preserved

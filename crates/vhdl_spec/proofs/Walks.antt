@@ -1,5 +1,5 @@
--- One place more of a walk over tokens.
-use Rattle.std.proofs.Common.{◌≡◌, ℕ, zero, suc, ◌+◌, ◌-◌, ◌<◌, ◌≤◌, Bool, true, false, cond, List, [], ◌∷◌, ◌++◌, Option, Some, None, map, filter, refl, sym, ◌∙◌, ap, append_assoc, arith}
+-- A walk over the tokens of a text: one place more, and places that fail a test are passed over.
+use Rattle.std.proofs.Common.{◌≡◌, ℕ, zero, suc, ◌+◌, ◌-◌, ◌<◌, ◌≤◌, Bool, true, false, cond, List, [], ◌∷◌, ◌++◌, Option, Some, None, map, filter, refl, sym, ◌∙◌, ap, append_assoc, append-nil, arith}
 use Rattle.std.specs.List.{range_with_len, find}
 use Rattle.std.proofs.lemmas.List.{map-append}
 use Rattle.std.proofs.lemmas.List.Elements.{filter-append}
@@ -34,6 +34,22 @@ pub walk_more : {X : Type 0} (f : ℕ → X) (test : ℕ → Bool) (start at : �
 walk_more {X} f test start at done items more ordered so_far adds =
     let longer : map f (places test start (at + 1)) ≡ map f (places test start at) ++ cond (test at) (f at ∷ []) [] = ap (map f) (places_more test start at ordered) ∙ map-append f (places test start at) (cond (test at) (at ∷ []) []) ∙ ap (λ (xs : List X). map f (places test start at) ++ xs) (map_cond f (test at) at) in
     adds ∙ ap (λ (xs : List X). xs ++ cond (test at) (f at ∷ []) []) so_far ∙ append_assoc done (map f (places test start at)) (cond (test at) (f at ∷ []) []) ∙ ap (λ (xs : List X). done ++ xs) (sym longer)
+
+-- places that fail a test may be passed over
+skip_some : (test : ℕ → Bool) (start at n : ℕ) → start ≤ at → ((k : ℕ) → at ≤ k → k < at + n → test k ≡ false) → places test start (at + n) ≡ places test start at
+skip_some test start at zero ordered none = let same : at + 0 ≡ at = omega arith in ap (places test start) same
+skip_some test start at (suc n) ordered none =
+    let is : at + suc n ≡ (at + n) + 1 = omega arith in
+    let last : test (at + n) ≡ false = none (at + n) (omega arith) (omega arith) in
+    ap (places test start) is ∙ places_more test start (at + n) (omega (arith, ordered))
+    ∙ ap (λ (b : Bool). places test start (at + n) ++ cond b ((at + n) ∷ []) []) last
+    ∙ append-nil (places test start (at + n))
+    ∙ skip_some test start at n ordered (λ k reach below. none k reach (omega (arith, below)))
+
+pub places_skip : (test : ℕ → Bool) (start at next : ℕ) → start ≤ at → at ≤ next → ((k : ℕ) → at ≤ k → k < next → test k ≡ false) → places test start next ≡ places test start at
+places_skip test start at next ordered later none =
+    let is : next ≡ at + (next - at) = omega (arith, later) in
+    ap (places test start) is ∙ skip_some test start at (next - at) ordered (λ k reach below. none k reach (omega (arith, later, below)))
 
 -- ## The first place
 

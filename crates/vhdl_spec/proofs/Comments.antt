@@ -9,7 +9,7 @@ use Rattle.vhdl_spec.specs.Units.{AreTokensOf}
 abbrev pub comment_at : List Span → ℕ → Span
 comment_at comments at = slice_index_or comments at (record { start = 0; end = 0 })
 
-abbrev pub AreSpans : ℕ → List Span → Type 0
+abbrev AreSpans : ℕ → List Span → Type 0
 AreSpans size comments = (at : ℕ) → at < length comments → ((comment_at comments at).start ≤ (comment_at comments at).end) × ((comment_at comments at).end ≤ size)
 
 span_more : (size : ℕ) (first : Span) (rest : List Span) → (first.start ≤ first.end) × (first.end ≤ size) → AreSpans size rest → AreSpans size (first ∷ rest)
@@ -31,5 +31,9 @@ span_from text place (piece ∷ pieces) end leads =
     let some : place.at < piece.end = leads.0.longest.some in
     span_row (length text) piece.row piece.start piece.end (comments_of pieces) (omega arith) leads.0.longest.within (span_from text (place_after place piece) pieces end leads.1)
 
-pub comments_lie : (text : List ℕ) (tokens : Tokens) → AreTokensOf text tokens → AreSpans (length text) tokens.comments
+comments_lie : (text : List ℕ) (tokens : Tokens) → AreTokensOf text tokens → AreSpans (length text) tokens.comments
 comments_lie text tokens are = subst (AreSpans (length text)) (sym are.2.comments) (span_from text text_start are.0 are.1.end are.1.leads)
+
+-- the comment at an index of a list of them
+pub comment_lies : (text : List ℕ) (tokens : Tokens) (comments : List Span) (at : ℕ) → AreTokensOf text tokens → comments ≡ tokens.comments → at < length comments → ((comment_at comments at).start ≤ (comment_at comments at).end) × ((comment_at comments at).end ≤ length text)
+comment_lies text tokens comments at are same within = subst (AreSpans (length text)) (sym same) (comments_lie text tokens are) at within

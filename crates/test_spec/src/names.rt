@@ -1,10 +1,10 @@
-//! Names that are in a text.
+//! A set of names of cases.
 
-ghost use Rattle.std.specs.Prelude.{◌≡◌, ◌||◌, [], Bool, List, ℕ, OnOk};
+ghost use Rattle.std.specs.Prelude.{◌≡◌, ◌||◌, [], Bool, List, ℕ, IfOk, OnOk};
 ghost use Rattle.std.specs.Str.{bytes_eq};
-ghost use Rattle.test_spec.specs.Verdicts.{has_case};
+ghost use Rattle.test_spec.specs.Verdicts.{HasAll, has_case};
 
-use base::NoMemory;
+use base::{NoMemory, TextList};
 use std::alloc::Global;
 use std::collections::BTreeSet;
 use std::marker::Model;
@@ -49,4 +49,15 @@ impl<'a> Names<'a> {
         self.set.insert(name)?;
         Ok(())
     }
+}
+
+/// The names of a list as a set.
+pub fn set_of<'a>(alloc: Global, names: &'a TextList) -> Result<Names<'a>, NoMemory>
+    ensures { IfOk result (λ set. HasAll set names.now) }
+{
+    let mut set = Names::new(alloc);
+    for name in names.as_slice() {
+        set.add(name.bytes())?;
+    }
+    Ok(set)
 }

@@ -3,8 +3,8 @@ use Rattle.std.proofs.Common.{ℕ, ◌||◌, List, ap, ◌∙◌}
 use Rattle.std.specs.Borrow.{Bor}
 use Rattle.std.specs.Str.{bytes_eq}
 use Rattle.test_spec.specs.Verdicts.{has_case}
-use Rattle.test_results.proofs.NameSets.{names_of, puts}
-use Rattle.test_results.proofs.names.Names.add.Goals as goal
+use Rattle.test_spec.proofs.NameSets.{names_of, puts}
+use Rattle.test_spec.proofs.names.Names.add.Goals as goal
 
 pub returns : goal.returns
 returns c = λ other.
