@@ -13,6 +13,6 @@ for crate in crates/*/; do
     mkdir -p "$room/$crate"
     for part in src specs proofs; do [ ! -d "$crate$part" ] || cp -r "$crate$part" "$room/$crate"; done
 done
-{ cat crates.txt; echo "build_bench: base outside memory_outside run_steps child_job_codec tests_graphs build_slots store_requests build_loop"; } >"$room/crates.txt"
+{ cat crates.txt; echo "build_bench: base outside memory_outside run_spec child_compile_request tests_graphs run_scheduler store run_build"; } >"$room/crates.txt"
 cp bench/build.main "$room/crates/build_bench/src/main.rt"
 cd "$room/crates/build_bench" && rt try build_bench --steps 1 --seconds 600

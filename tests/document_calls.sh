@@ -1,5 +1,5 @@
 # What documents say that the program calls is reached from `main`, and what they say that tests alone call isn't: by phrases, by the
-# steps in MAP and by the rows of crates in PROMISES, as tests/support/document_calls.py says. Then wrong sentences and rows are planted
+# steps in TOUR and by the rows of crates in PROMISES, as tests/support/document_calls.py says. Then wrong sentences and rows are planted
 # in copies of the pages, over sources with a function that nothing calls; each must be named. Prints what isn't so. Ends with 0, with
 # 1 where something isn't, and with 77 where python3 is missing.
 room=$PWD
@@ -12,12 +12,12 @@ export PYTHONDONTWRITEBYTECODE
 
 python3 tests/support/document_calls.py || exit 1
 
-mkdir -p "$room/crates/order_files" && cp crates.txt "$room" || exit 1
+mkdir -p "$room/crates/order" && cp crates.txt "$room" || exit 1
 for crate in crates/*; do
-    [ "$crate" = crates/order_files ] || ln -s "$PWD/$crate" "$room/crates" || exit 1
+    [ "$crate" = crates/order ] || ln -s "$PWD/$crate" "$room/crates" || exit 1
 done
-cp -R crates/order_files/src "$room/crates/order_files" || exit 1
-printf '%s\n' 'fn never_called() -> u64 {' '    0' '}' >>"$room/crates/order_files/src/ordering.rt"
+cp -R crates/order/src "$room/crates/order" || exit 1
+printf '%s\n' 'fn never_called() -> u64 {' '    0' '}' >>"$room/crates/order/src/ordering.rt"
 
 # plant WANTED PAGE EDIT: where sed has edited a page, WANTED is all that is printed
 cases=0
@@ -31,19 +31,19 @@ plant() {
     exit 1
 }
 
-notes=docs/NOTES.md map=docs/MAP.md
+notes=docs/NOTES.md tour=docs/TOUR.md
 plant "$notes: nothing on the way from main calls never_called" $notes '$a - `order` and `never_called`, which the program calls.'
 plant "$notes: nothing on the way from main calls never_called" $notes '$a - Of these the program calls `never_called`.'
 plant "$notes: never_written is no function of the program" $notes '$a - `never_written`, which the program calls.'
 plant "$notes: minimal_graph is called on the way from main" $notes '$a - `minimal_graph`, which tests alone call.'
-plant "$map, graph: nothing on the way from main calls never_called" $map 's/ordering.rt`: `order`/ordering.rt`: `never_called`/'
-plant "$map, graph: order_graph isn't in order_files/src/ordering.rt" $map 's/ordering.rt`: `order`/ordering.rt`: `order_graph`/'
-plant "$map, graph: graph_of isn't in order_files/src/ordering.rt" $map 's/ordering.rt`: `order`/ordering.rt`: `graph_of`/'
-plant "$map has no table of steps" $map 's/^| Step |/| Turn |/'
-plant "$map, graph: there is no file order_files/src/orders.rt" $map 's/ordering.rt`: `order`/orders.rt`: `order`/'
-plant "docs/proof/PROMISES.md, order_files: nothing on the way from main calls never_called" docs/proof/PROMISES.md '$a \
+plant "$tour, graph: nothing on the way from main calls never_called" $tour 's/ordering.rt`: `order`/ordering.rt`: `never_called`/'
+plant "$tour, graph: order_graph isn't in order/src/ordering.rt" $tour 's/ordering.rt`: `order`/ordering.rt`: `order_graph`/'
+plant "$tour, graph: graph_of isn't in order/src/ordering.rt" $tour 's/ordering.rt`: `order`/ordering.rt`: `graph_of`/'
+plant "$tour has no table of steps" $tour 's/^| Step |/| Turn |/'
+plant "$tour, graph: there is no file order/src/orders.rt" $tour 's/ordering.rt`: `order`/orders.rt`: `order`/'
+plant "docs/proof/PROMISES.md, order: nothing on the way from main calls never_called" docs/proof/PROMISES.md '$a \
 \
 | Crate | Promise | State | By |\
 |---|---|---|---|\
-| `order_files` | `never_called`: exactly the order. | proved | |'
+| `order` | `never_called`: exactly the order. | proved | |'
 echo "$cases planted cases are named"

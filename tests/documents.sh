@@ -1,7 +1,7 @@
 # No run of twelve words stands in two pages of README.md and docs/, so that each fact has one home: fenced blocks, which are code
 # and what is printed, and the project's sentence, which is quoted by lines with `>`, don't count, nor do the pages that are made of
 # comments in the sources, whose words have their home there. Words between backticks count as one. Each link of these pages, and
-# each page that a script names, leads somewhere; MAP has a row for each crate of crates.txt, in that order, and says how many there are;
+# each page that a script names, leads somewhere; ARCHITECTURE has a row for each crate of crates.txt, in that order, and says how many there are;
 # and README names no public function that the program doesn't call. All pages, with CHANGES.md, have at most 70,000 words, and those by
 # hand 55,000. Prints what isn't so. Ends with 0, with 1 where something isn't, and with 77 where python3 is missing.
 cd -- "${TOP:-$(dirname -- "$0")/..}" || exit 1
@@ -60,13 +60,13 @@ for line in pathlib.Path("crates.txt").read_text().splitlines():
         crates[uses.split(":")[0].split()[0]] = set(uses.partition(":")[2].split()) - set(only_tests.split())
 for crate in program:
     program += [low for low in crates[crate] if low in crates and low not in program]
-tables = [[crate for crate in re.findall(r"^\| `(\w+)` \|", table, re.M) if crate in crates] for table in re.split(r"\n\| Crate ", pages["docs/MAP.md"])[1:]]
-main, small, tested = tables
-wrong.extend(f"docs/MAP.md has no row for {crate}" for crate in crates if crate not in main + tested)
-if any(table != [crate for crate in crates if crate in table] for table in (main, tested)):
-    wrong.append("docs/MAP.md hasn't the order of crates.txt")
+tables = [[crate for crate in re.findall(r"^\| `(\w+)` \|", table, re.M) if crate in crates] for table in re.split(r"\n\| Crate ", pages["docs/ARCHITECTURE.md"])[1:]]
+(rows,) = tables
+wrong.extend(f"docs/ARCHITECTURE.md has no row for {crate}" for crate in crates if crate not in rows)
+if rows != [crate for crate in crates if crate in rows]:
+    wrong.append("docs/ARCHITECTURE.md hasn't the order of crates.txt")
 counts = re.search(r"longest chain of the program has (\d+):\s+(.*?)\. The program has (\d+) of the (\d+) crates; (\d+) are",
-                   pages["docs/MAP.md"], re.S)
+                   pages["docs/ARCHITECTURE.md"], re.S)
 depth = {}
 for crate in crates:
     depth[crate] = 1 + max((depth[low] for low in crates[crate] if low in crates), default=0)
@@ -74,7 +74,7 @@ chain = re.findall(r"\w+", counts[2]) if counts else []
 has = [int(counts[at]) for at in (1, 3, 4, 5)] if counts else []
 right = [depth["vunit_run"], len(program), len(crates), sum(crate.startswith("tests_") for crate in crates)]
 if has != right or len(chain) != right[0] or any(low not in crates[high] for low, high in zip(chain, chain[1:])):
-    wrong.append(f"docs/MAP.md: longest chain, crates of the program, all crates, crates of tests: {right}, and not {has} with {' '.join(chain)}")
+    wrong.append(f"docs/ARCHITECTURE.md: longest chain, crates of the program, all crates, crates of tests: {right}, and not {has} with {' '.join(chain)}")
 sizes = {page: len(text.split()) for page, text in (pages | {"CHANGES.md": pathlib.Path("CHANGES.md").read_text()}).items()}
 every = sum(sizes.values())
 by_hand = every - sum(sizes[page] for page in MADE)

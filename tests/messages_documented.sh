@@ -13,11 +13,11 @@ needs python3
 exec python3 - <<'END'
 import pathlib, re, sys
 
-CRATES = ("run_hints", "vunit_hints", "vunit_sources", "system_*", "report_run", "report_lists", "report_verdicts", "vunit_run")
+CRATES = ("vunit_hints", "vunit_hints", "vunit_hints", "system_*", "report", "report", "report", "vunit_run")
 # The usage text, and what the built-in compiler and simulator print.
-OTHERS = ("vunit_top/src/ends.rt", "child_tools/src/answers.rt", "child_benches/src/ends.rt")
+OTHERS = ("vunit_top/src/ends.rt", "child_tools/src/answers.rt", "child_tools/src/ends.rt")
 # Lines of --help, which the table of options has, and XML.
-PASSED_OVER = ("run_hints/src/options.rt", "report_verdicts/src/xml.rt")
+PASSED_OVER = ("vunit_hints/src/options.rt", "report/src/xml.rt")
 SUBJECTS = {"a child", "a command", "a report", "standard input", "standard output"}  # of a fault
 SEVERAL = {"[~/~] ~ passed, ~ failed": 2, "Compiling into": 3, "did you mean": 2, "no architecture": 2, "no unit": 3, "over limit": 6,
            "stands twice": 5, "tests passed: ~, failed": 2, "use of": 2, "wrong value of": 3}

@@ -27,20 +27,20 @@ plant() {
     exit 1
 }
 
-order=crates/order_files/src/lib.rt
-plant function "order_files never_called" "$order" 'fn never_called() -> u64
+order=crates/order/src/lib.rt
+plant function "order never_called" "$order" 'fn never_called() -> u64
     ensures answer { result ≡ 7 }
 {
     never_called()
 }'
-plant method "order_files Planted::never_called" "$order" 'struct Planted;
+plant method "order Planted::never_called" "$order" 'struct Planted;
 impl Planted {
     fn never_called(&self) -> u64 {
         0
     }
 }'
-plant trait_method "order_files Calls::never_called
-order_files Planted::never_called" "$order" 'trait Calls {
+plant trait_method "order Calls::never_called
+order Planted::never_called" "$order" 'trait Calls {
     fn never_called(&self) -> u64;
 }
 struct Planted;
@@ -49,7 +49,7 @@ impl Calls for Planted {
         0
     }
 }'
-plant tested "order_files never_called" "$order" 'fn never_called() -> u64 {
+plant tested "order never_called" "$order" 'fn never_called() -> u64 {
     0
 }
 #[cfg(test)]

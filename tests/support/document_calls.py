@@ -4,7 +4,7 @@ usage: document_calls.py [TOP]
 
 A page says that the program calls a function by "`NAME`, which the program calls" or "the program calls `NAME`", and that it doesn't by
 "`NAME`, for tests", "for tests `NAME`" or "`NAME`, which tests alone call"; NAME may have its type before it, and may be a list of names.
-In MAP the column "Where" of the table of steps names calls: those behind a file stand in that file. In PROMISES each function of the
+In TOUR the column "Where" of the table of steps names calls: those behind a file stand in that file. In PROMISES each function of the
 crate of a row that the column "Promise" names is a call too, unless the row says that it is for tests; laws, whose bodies are empty,
 aren't called.
 
@@ -93,7 +93,7 @@ def rows_of(text, head):
 
 
 def steps(page, text):
-    """The calls of MAP's steps: files and names of functions, from left to right."""
+    """The calls of TOUR's steps: files and names of functions, from left to right."""
     rows = list(rows_of(text, "| Step | Where |"))
     if not rows:
         wrong.append(f"{page} has no table of steps")
@@ -136,7 +136,7 @@ for path in pages:
             found = meant(code, crate)
             if found and code not in tested + called and not all(is_law(function) for function in found):
                 claim_called(f"{page}, {crate}", code, found)
-    if path.name == "MAP.md":
+    if path.name == "TOUR.md":
         steps(page, text)
 
 print(*wrong, sep="\n", end="\n" if wrong else "")

@@ -6,7 +6,7 @@ use Rattle.base.specs.declared.graph.BuiltFile.{BuiltFile}
 use Rattle.base.specs.declared.limits.TheConstants.{TEXT_LIMIT, FILE_LIMIT, GRAPH_TEXT_LIMIT, ARTEFACT_LIMIT}
 use Rattle.base.specs.Names.{FitsName, FitsCommand}
 
--- the file at place i of the graph: its dependencies rise, come before it, and hold their own dependencies
+-- the file at rank i of the graph: its dependencies rise, come before it, and hold their own dependencies
 pub record IsEntryAt (graph : List Entry) (i : ℕ) (entry : Entry) : Type 0 where
   pub rising : IsStrictlyIncreasing entry.deps
   pub before : All (λ dep. dep < i) entry.deps

@@ -9,12 +9,12 @@ unfoldable pub viewed : List Entry → ℕ → List ℕ
 viewed graph at = option_map_or (λ entry. entry.deps ++ at ∷ []) (slice_get graph at) []
 
 -- the new position of a file in a part, from its old one
-abbrev pub place_in : List ℕ → ℕ → ℕ
-place_in positions position = position_or_len (λ other. other == position) positions
+abbrev pub rank_in : List ℕ → ℕ → ℕ
+rank_in positions position = position_or_len (λ other. other == position) positions
 
 -- a file whose dependencies have their new numbers
 abbrev pub renumbered : List ℕ → Entry → Entry
-renumbered positions entry = record { name = entry.name; command = entry.command; text = entry.text; deps = map (place_in positions) entry.deps }
+renumbered positions entry = record { name = entry.name; command = entry.command; text = entry.text; deps = map (rank_in positions) entry.deps }
 
 -- The files at these positions, in order, as a graph of their own with new positions. Dependencies outside of the part
 -- are left out.
@@ -28,4 +28,4 @@ view graph at = part graph (viewed graph at)
 -- at least one file, of which the last depends on all others
 pub record IsView (view : List Entry) : Type 0 where
   pub some : 0 < length view
-  pub whole : (last place : ℕ) (other : Entry) → last + 1 ≡ length view → place < last → Contains (slice_index_or view last other).deps place
+  pub whole : (last rank : ℕ) (other : Entry) → last + 1 ≡ length view → rank < last → Contains (slice_index_or view last other).deps rank

@@ -59,7 +59,7 @@ impl FileName {
     }
 
     /// Whether this names a file of a project: a library of 1 to 64 bytes, and a path of 1 to 1,024.
-    pub fn fits(&self) -> bool
+    pub fn is_within_limits(&self) -> bool
         ensures { IsTrue result ↔ FitsName self.now }
     {
         let library = self.library.bytes().len();

@@ -60,7 +60,7 @@ impl Graph {
         self.entries.is_empty()
     }
 
-    /// The file at a place, counted from 0.
+    /// The file at a rank, counted from 0.
     pub fn get(&self, i: u64) -> &Entry
         requires { i < length self.now }
         ensures entry { slice_get self.now i ≡ Some result.now }
@@ -138,7 +138,7 @@ impl Built {
         self.files.is_empty()
     }
 
-    /// The file at a place, counted from 0.
+    /// The file at a rank, counted from 0.
     pub fn get(&self, i: u64) -> &BuiltFile
         requires { i < length self.now }
         ensures file { slice_get self.now i ≡ Some result.now }

@@ -72,7 +72,7 @@ impl<T> Items<T> {
         self.list.is_empty()
     }
 
-    /// The item at a place, counted from 0.
+    /// The item at a rank, counted from 0.
     pub fn get(&self, i: u64) -> &T
         requires { i < length self.now }
         ensures { slice_get self.now i ≡ Some result.now }

@@ -11,7 +11,7 @@ pub struct ProjectFile {
 
 pub type ProjectFileList = Items<ProjectFile>;
 
-/// One file of a project depends on another: their places among its files.
+/// One file of a project depends on another: their ranks among its files.
 #[derive(Clone, Copy, Debug, PartialEq, Eq)]
 pub struct Pair {
     pub user: u64,

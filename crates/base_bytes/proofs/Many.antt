@@ -15,10 +15,10 @@ pub by_recursion : {X : Type 0} (P : X → Type 0) (xs : List X) → All P xs �
 by_recursion P [] all = tt
 by_recursion P (x ∷ xs) all = (all 0 x (omega arith), by_recursion P xs (λ k d l. all (suc k) d (omega arith)))
 
-pub by_place : {X : Type 0} (P : X → Type 0) (xs : List X) → AllByRecursion P xs → All P xs
-by_place P [] all k d l = absurd (omega arith)
-by_place P (x ∷ xs) all zero d l = all.0
-by_place P (x ∷ xs) all (suc k) d l = by_place P xs all.1 k d (omega arith)
+pub by_index : {X : Type 0} (P : X → Type 0) (xs : List X) → AllByRecursion P xs → All P xs
+by_index P [] all k d l = absurd (omega arith)
+by_index P (x ∷ xs) all zero d l = all.0
+by_index P (x ∷ xs) all (suc k) d l = by_index P xs all.1 k d (omega arith)
 
 -- what was read before, and what is still read
 abbrev pub with_prefix : {X : Type 0} → List X → Option (List X × List ℕ) → Option (List X × List ℕ)

@@ -1,7 +1,7 @@
 //! How a run can end: outcomes, refusals, passed limits, and outside objects that failed.
 
+use crate::TestFault;
 use base::{FileList, FileName, LexFault, ProjectFault, Text, UnitFault};
-use vhdl_benches::TestFault;
 
 /// What is wrong with the sources, or with the files that the compiler refused.
 #[derive(Drop)]
@@ -72,7 +72,7 @@ pub enum Limit {
 
 /// An outside object that failed. `Start` and `Child` are of the object that starts children.
 #[derive(Clone, Copy, Debug, PartialEq, Eq)]
-pub enum Which {
+pub enum OutsideObject {
     Tree,
     Disk,
     Start,
@@ -90,7 +90,7 @@ pub enum Outcome {
     Refused(Refusal),
     /// The words aren't a command line of the program.
     BadWords,
-    OutsideFault(Which),
+    OutsideFault(OutsideObject),
     NoMemory,
     OverLimit(Limit),
     /// The program was started as a child, and ends with this code.

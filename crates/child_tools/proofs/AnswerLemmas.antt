@@ -9,9 +9,9 @@ use Rattle.vhdl_spec.proofs.OneFinding.{one_finding}
 use Rattle.vhdl_spec.specs.Scans.{Finding, Clean, Lexical, Grammatical, IsScanOf, IsScanner}
 use Rattle.vhdl_spec.specs.Tokens.{HasFault}
 use Rattle.vhdl_spec.specs.Units.{AreTokensOf, HasUnitFault}
-use Rattle.child_job_codec.specs.Jobs.{IsJob, job_bytes}
-use Rattle.child_job_codec.specs.Reading.{job_at}
-use Rattle.child_job_codec.specs.declared.reading.CompileJob.{CompileJob}
+use Rattle.child_compile_request.specs.Jobs.{IsJob, job_bytes}
+use Rattle.child_compile_request.specs.Reading.{job_at}
+use Rattle.child_compile_request.specs.declared.reading.CompileJob.{CompileJob}
 use Rattle.child_tools.specs.Answers.{answer, answer_by, not_vhdl, scripted}
 use Rattle.child_tools.specs.Found.{IsFoundClean, clean_scan}
 

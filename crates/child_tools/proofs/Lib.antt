@@ -1,6 +1,10 @@
--- The lemmas of this crate.
+-- The lemmas.
 pub mod ScriptLemmas
-pub mod MarkLemmas
+pub mod FlagLemmas
 pub mod MissingLemmas
 pub mod WantedLemmas
 pub mod AnswerLemmas
+pub mod Said
+pub mod Failing
+pub mod Cases
+pub mod Read

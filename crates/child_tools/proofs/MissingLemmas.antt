@@ -8,18 +8,18 @@ use Rattle.std.proofs.lemmas.List.{drop_all, drop_more, take_more}
 use Rattle.std.proofs.lemmas.List.Folds.{list_any-append}
 use Rattle.std.proofs.lemmas.Slice.Eq.{bytes_eq-Decides}
 use Rattle.base.specs.declared.graph.BuiltFile.{BuiltFile}
-use Rattle.base_key_index.specs.Maps.{get}
+use Rattle.base_collections.specs.Maps.{get}
 use Rattle.child_lines.specs.Lines.{in_library}
 use Rattle.child_tools.specs.Exports.{exports, exports_unit, first_missing, has_library, is_missing}
-use Rattle.child_tools.specs.Marks.{HasPut, KnowsLibraries, KnowsUnits, Marks, has_key}
-use Rattle.vhdl_keys.specs.UnitKeys.{is_same_unit, unit_key, units_decide}
-use Rattle.vhdl_keys.specs.declared.units.UnitKey.{UnitKey}
-use Rattle.child_tools.proofs.MarkLemmas.{Marking}
+use Rattle.child_tools.specs.Flags.{HasPut, KnowsLibraries, KnowsUnits, Flags, has_key}
+use Rattle.vhdl_units.specs.UnitKeys.{is_same_unit, unit_key, units_decide}
+use Rattle.vhdl_units.specs.declared.units.UnitKey.{UnitKey}
+use Rattle.child_tools.proofs.FlagLemmas.{Marking}
 
 -- ## Units that are wanted
 
 abbrev pub AreWanted : List UnitKey → Marking → Type 0
-AreWanted units marks = (unit : UnitKey) → get is_same_unit marks unit ≡ cond (list_any (λ other. is_same_unit other unit) units) (Some false) None
+AreWanted units flags = (unit : UnitKey) → get is_same_unit flags unit ≡ cond (list_any (λ other. is_same_unit other unit) units) (Some false) None
 
 either : (a b : Bool) → cond b (Some false) (cond a (Some false) None) ≡ cond (a || (b || false)) (Some false) None
 either true true = refl
@@ -33,8 +33,8 @@ wanted_more units unit old new are put other =
     ∙ ap (λ (b : Bool). cond b (Some false) None) (sym (list_any-append (λ o. is_same_unit o other) units (unit ∷ [])))))
 
 -- what files and one more export is found of what is wanted
-pub units_known : (files : List BuiltFile) (last : BuiltFile) (units : List UnitKey) (library artefact : List ℕ) (first now new : Marking) → last.name.library ≡ library → last.artefact ≡ artefact → AreWanted units first → Marks (exports files) first now
-    → Marks (λ unit. bytes_eq library unit.library && exports_unit artefact unit.name) now new → KnowsUnits (files ++ last ∷ []) units new
+pub units_known : (files : List BuiltFile) (last : BuiltFile) (units : List UnitKey) (library artefact : List ℕ) (first now new : Marking) → last.name.library ≡ library → last.artefact ≡ artefact → AreWanted units first → Flags (exports files) first now
+    → Flags (λ unit. bytes_eq library unit.library && exports_unit artefact unit.name) now new → KnowsUnits (files ++ last ∷ []) units new
 units_known files last units library artefact first now new is_library is_artefact are more own unit =
     own unit ∙ (ap (option_map (λ found. found || (bytes_eq library unit.library && exports_unit artefact unit.name))) (more unit ∙ ap (option_map (λ found. found || exports files unit)) (are unit))
     ∙ (told (list_any (λ other. is_same_unit other unit) units) (exports files unit) (bytes_eq library unit.library && exports_unit artefact unit.name)

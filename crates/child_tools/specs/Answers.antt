@@ -7,13 +7,13 @@ use Rattle.base.specs.declared.file.FileName.{FileName}
 use Rattle.base.specs.declared.graph.BuiltFile.{BuiltFile}
 use Rattle.base.specs.declared.limits.TheConstants.{ARTEFACT_LIMIT}
 use Rattle.child_lines.specs.Ends.{bad_request, ends_with}
-use Rattle.child_job_codec.specs.Reading.{job_at}
-use Rattle.child_job_codec.specs.declared.reading.CompileJob.{CompileJob}
+use Rattle.child_compile_request.specs.Reading.{job_at}
+use Rattle.child_compile_request.specs.declared.reading.CompileJob.{CompileJob}
 use Rattle.vhdl_spec.specs.Scans.{Finding, Clean, Lexical, Grammatical}
 use Rattle.child_tools.specs.Artefacts.{artefact_of}
 use Rattle.child_tools.specs.Exports.{first_missing, wanted_units}
 use Rattle.child_tools.specs.Scripts.{first_refusal}
-use Rattle.vhdl_keys.specs.declared.units.UnitKey.{UnitKey}
+use Rattle.vhdl_units.specs.declared.units.UnitKey.{UnitKey}
 
 -- the file is refused with this line
 unfoldable pub refused : List ℕ → Exit

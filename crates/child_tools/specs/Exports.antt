@@ -8,8 +8,8 @@ use Rattle.base.specs.declared.graph.BuiltFile.{BuiltFile}
 use Rattle.base.specs.declared.refs.Ref.{Ref}
 use Rattle.vhdl_spec.specs.References.{refs_of, work}
 use Rattle.child_lines.specs.Lines.{after_word, in_library, lines}
-use Rattle.vhdl_keys.specs.UnitKeys.{unit_key}
-use Rattle.vhdl_keys.specs.declared.units.UnitKey.{UnitKey}
+use Rattle.vhdl_units.specs.UnitKeys.{unit_key}
+use Rattle.vhdl_units.specs.declared.units.UnitKey.{UnitKey}
 
 -- the primary unit that a line of an artefact is of
 unfoldable pub exported_by : List ℕ → Option (List ℕ)

@@ -1,7 +1,9 @@
--- The definitions: what artefacts say, what the comments of a file say to the children, and what the compiler answers.
+-- The definitions.
 pub mod Scripts
 pub mod Artefacts
 pub mod Exports
 pub mod Answers
-pub mod Marks
+pub mod Flags
 pub mod Found
+pub mod Benches
+pub mod Failures

@@ -3,25 +3,24 @@
 ghost use Rattle.std.specs.Prelude.{◌≡◌, ◌≤◌, ℕ, List, IfOk, IfSome, MatchOption, None, Some, length};
 ghost use Rattle.vhdl_spec.specs.Scans.{Finding, IsScanOf, IsScanner};
 ghost use Rattle.vhdl_spec.specs.Units.{AreTokensOf, roles_of};
-ghost use Rattle.child_job_codec.specs.Jobs.{IsJob};
-ghost use Rattle.child_job_codec.specs.Reading.{job_at};
+ghost use Rattle.child_compile_request.specs.Jobs.{IsJob};
+ghost use Rattle.child_compile_request.specs.Reading.{job_at};
 ghost use Rattle.child_tools.specs.Answers.{analysis, answer, linked, scripted};
 ghost use Rattle.child_tools.specs.Artefacts.{artefact_of};
 ghost use Rattle.child_tools.specs.Exports.{wanted_units};
 ghost use Rattle.child_tools.specs.Found.{IsFoundClean};
 
-use crate::answers::{made, no_unit, not_vhdl, refused};
+use crate::answers::{artefact_exit, no_unit, not_vhdl, refusal_exit};
 use crate::artefacts::artefact_of;
 use crate::exports::first_missing;
 use crate::scripts::first_refusal;
 use crate::wanted::wanted_units;
 use base::{Exit, NoMemory, OrMemory, RoleList, Scan, TEXT_LIMIT, Text, Tokens};
-use child_job_codec::{CompileJob, laws_of_jobs, read_compile_request};
+use child_compile_request::{CompileJob, laws_of_jobs, read_compile_request};
 use child_lines::bad_request;
 use std::alloc::Global;
-use vhdl_keys::UnitKey;
 use vhdl_lex::{no_tokens, scan_with_roles};
-use vhdl_units::outline;
+use vhdl_units::{UnitKey, outline};
 
 /// The answer to a file that wants some units, and of which an artefact would be made.
 #[tactic(auto, unfolding(crate::specs::Answers::linked))]
@@ -37,7 +36,7 @@ fn link(
     let missing = first_missing(alloc, units, files, &job.name.library, artefact.bytes())?;
     match missing {
         Some(unit) => no_unit(alloc, &job.name, unit),
-        None => made(alloc, artefact),
+        None => artefact_exit(alloc, artefact),
     }
 }
 
@@ -74,7 +73,7 @@ fn answer_scan(
     ensures { IfOk result (λ exit. exit ≡ scripted job.now scan.now) }
 {
     match first_refusal(job.text.bytes(), &scan.tokens) {
-        Some(line) => refused(alloc, line),
+        Some(line) => refusal_exit(alloc, line),
         None => link_scan(alloc, job, scan, roles),
     }
 }

@@ -6,7 +6,7 @@ ghost use Rattle.child_tools.specs.Answers.{made, no_unit, not_vhdl, refused};
 use base::{ARTEFACT_LIMIT, Exit, FileName, NoMemory, Text};
 use child_lines::{ends_with, put};
 use std::alloc::Global;
-use vhdl_keys::UnitKey;
+use vhdl_units::UnitKey;
 
 /// A refusal with a line, to which its line feed is added.
 #[tactic(auto, unfolding(crate::specs::Answers::refused))]
@@ -19,7 +19,7 @@ fn refused_with(line: Vec<u8>) -> Result<Exit, NoMemory>
 }
 
 /// A refusal with a line.
-pub fn refused(alloc: Global, line: &[u8]) -> Result<Exit, NoMemory>
+pub fn refusal_exit(alloc: Global, line: &[u8]) -> Result<Exit, NoMemory>
     ensures { IfOk result (λ exit. exit ≡ refused line.now) }
 {
     refused_with(Vec::from_slice(alloc, line)?)
@@ -50,11 +50,11 @@ pub fn no_unit(alloc: Global, name: &FileName, unit: &UnitKey) -> Result<Exit, N
 
 /// The answer to a file by its artefact.
 #[tactic(auto, unfolding(crate::specs::Answers::made))]
-pub fn made(alloc: Global, artefact: Text) -> Result<Exit, NoMemory>
+pub fn artefact_exit(alloc: Global, artefact: Text) -> Result<Exit, NoMemory>
     ensures { IfOk result (λ exit. exit ≡ made artefact) }
 {
     if artefact.bytes().len() > ARTEFACT_LIMIT {
-        return refused(alloc, b"artefact too long");
+        return refusal_exit(alloc, b"artefact too long");
     }
     Ok(ends_with(0, artefact))
 }

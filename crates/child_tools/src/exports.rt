@@ -5,17 +5,17 @@ ghost use Rattle.std.specs.List.{list_any};
 ghost use Rattle.std.specs.Option.{option_map};
 ghost use Rattle.std.specs.Str.{bytes_eq};
 ghost use Rattle.base.specs.declared.graph.BuiltFile.{BuiltFile};
-ghost use Rattle.base_key_index.specs.Maps.{get};
-ghost use Rattle.vhdl_keys.specs.UnitKeys.{is_same_unit};
+ghost use Rattle.base_collections.specs.Maps.{get};
+ghost use Rattle.vhdl_units.specs.UnitKeys.{is_same_unit};
 ghost use Rattle.child_tools.specs.Exports.{exported_by, exports, exports_unit, first_missing, is_export, is_missing};
-ghost use Rattle.child_tools.specs.Marks.{Marks, HasPut, KnowsLibraries, KnowsUnits, has_key};
+ghost use Rattle.child_tools.specs.Flags.{Flags, HasPut, KnowsLibraries, KnowsUnits, has_key};
 
-use crate::names::{library_key, put_library, put_name};
+use crate::unit_names::{library_key, put_library, put_name};
 use base::{BuiltFile, NoMemory, Text};
-use base_key_index::{Key, KeyMap};
+use base_collections::{Key, KeyMap};
 use child_lines::{after_word, next_line};
 use std::alloc::Global;
-use vhdl_keys::UnitKey;
+use vhdl_units::UnitKey;
 
 /// The primary unit that a line of an artefact is of.
 #[tactic(auto, unfolding(crate::specs::Exports::exported_by))]
@@ -41,107 +41,107 @@ fn exported_by(line: &[u8]) -> Option<&[u8]>
     after_word(b"unit context ", line)
 }
 
-/// Marks a unit as found, where it is wanted.
-fn mark_unit(
+/// Flags a unit as found, where it is wanted.
+fn flag_unit(
     alloc: Global,
     unit: &UnitKey,
-    marks: &mut KeyMap<UnitKey, bool>,
+    flags: &mut KeyMap<UnitKey, bool>,
 ) -> Result<(), NoMemory>
-    ensures { OnOk result (Marks (is_same_unit unit.now) marks.old marks.new) }
+    ensures { OnOk result (Flags (is_same_unit unit.now) flags.old flags.new) }
 {
-    let Some(found) = marks.get(unit) else {
+    let Some(found) = flags.get(unit) else {
         return Ok(());
     };
     if found {
         return Ok(());
     }
-    marks.insert(unit.copy(alloc)?, true)?;
+    flags.insert(unit.copy(alloc)?, true)?;
     Ok(())
 }
 
-/// Marks the unit that a line of an artefact of a library exports. What is in the name of `key` is lost.
-fn mark_line(
+/// Flags the unit that a line of an artefact of a library exports. What is in the name of `key` is lost.
+fn flag_line(
     alloc: Global,
     line: &[u8],
     key: &mut UnitKey,
-    marks: &mut KeyMap<UnitKey, bool>,
+    flags: &mut KeyMap<UnitKey, bool>,
 ) -> Result<(), NoMemory>
     ensures library { OnOk result (key.new.library ≡ key.old.library) }
-    ensures marks { OnOk result (Marks
+    ensures flags { OnOk result (Flags
         (λ unit. bytes_eq key.old.library unit.library && is_export unit.name line.now)
-        marks.old marks.new) }
+        flags.old flags.new) }
 {
     let Some(name) = exported_by(line) else {
         return Ok(());
     };
     put_name(alloc, key, name)?;
-    mark_unit(alloc, key, marks)
+    flag_unit(alloc, key, flags)
 }
 
-/// Marks the units that an artefact of the library of `key` exports, in one pass. What is in the name of `key` is lost.
-fn mark_lines(
+/// Flags the units that an artefact of the library of `key` exports, in one pass. What is in the name of `key` is lost.
+fn flag_lines(
     alloc: Global,
     artefact: &[u8],
     key: &mut UnitKey,
-    marks: &mut KeyMap<UnitKey, bool>,
+    flags: &mut KeyMap<UnitKey, bool>,
 ) -> Result<(), NoMemory>
-    ensures { OnOk result (Marks
+    ensures { OnOk result (Flags
         (λ unit. bytes_eq key.old.library unit.library && exports_unit artefact.now unit.name)
-        marks.old marks.new) }
+        flags.old flags.new) }
 {
     let mut rest = artefact;
     while let Some((line, others)) = next_line(rest) {
-        mark_line(alloc, line, key, marks)?;
+        flag_line(alloc, line, key, flags)?;
         rest = others;
     }
-    mark_line(alloc, rest, key, marks)
+    flag_line(alloc, rest, key, flags)
 }
 
-/// Marks the units that an artefact of a library exports. `key` is any, and takes no memory anew where it is of that library.
-fn mark_artefact(
+/// Flags the units that an artefact of a library exports. `key` is any, and takes no memory anew where it is of that library.
+fn flag_artefact(
     alloc: Global,
     library: &Text,
     artefact: &[u8],
     key: &mut UnitKey,
-    marks: &mut KeyMap<UnitKey, bool>,
+    flags: &mut KeyMap<UnitKey, bool>,
 ) -> Result<(), NoMemory>
-    ensures { OnOk result (Marks
+    ensures { OnOk result (Flags
         (λ unit. bytes_eq library.now unit.library && exports_unit artefact.now unit.name)
-        marks.old marks.new) }
+        flags.old flags.new) }
 {
     put_library(alloc, key, library)?;
-    mark_lines(alloc, artefact, key, marks)
+    flag_lines(alloc, artefact, key, flags)
 }
 
-/// Marks the units that the artefacts of files export. `key` is any.
-fn mark_files(
+/// Flags the units that the artefacts of files export. `key` is any.
+fn flag_files(
     alloc: Global,
     files: &[BuiltFile],
     key: &mut UnitKey,
-    marks: &mut KeyMap<UnitKey, bool>,
+    flags: &mut KeyMap<UnitKey, bool>,
 ) -> Result<(), NoMemory>
-    ensures { OnOk result (Marks (exports files.now) marks.old marks.new) }
+    ensures { OnOk result (Flags (exports files.now) flags.old flags.new) }
 {
     for file in files {
-        mark_artefact(alloc, &file.name.library, file.artefact.bytes(), key, marks)?;
+        flag_artefact(alloc, &file.name.library, file.artefact.bytes(), key, flags)?;
     }
     Ok(())
 }
 
 /// Units that are wanted, none of which is found yet.
-fn wanted(alloc: Global, units: &[UnitKey]) -> Result<KeyMap<UnitKey, bool>, NoMemory>
-    ensures { IfOk result (λ marks. (unit : UnitKey) → get is_same_unit marks unit ≡
+fn units_to_find(alloc: Global, units: &[UnitKey]) -> Result<KeyMap<UnitKey, bool>, NoMemory>
+    ensures { IfOk result (λ flags. (unit : UnitKey) → get is_same_unit flags unit ≡
         (if list_any (λ other. is_same_unit other unit) units.now then Some false else None)) }
 {
-    let mut marks = KeyMap::with_room(alloc, units.len())?;
+    let mut flags = KeyMap::with_room(alloc, units.len())?;
     for unit in units {
-        marks.insert(unit.copy(alloc)?, false)?;
+        flags.insert(unit.copy(alloc)?, false)?;
     }
-    Ok(marks)
+    Ok(flags)
 }
 
-/// Which of some units are exported by the artefacts of files, of which the last is lent apart.
-fn marks_of(
+/// Which of some units are exported by the artefacts of files, of which the last is borrowed apart.
+fn flags_of(
     alloc: Global,
     units: &[UnitKey],
     files: &[BuiltFile],
@@ -151,11 +151,11 @@ fn marks_of(
     ensures { (last : BuiltFile) → last.name.library ≡ library.now → last.artefact ≡ artefact.now →
         IfOk result (KnowsUnits (files.now ++ last ∷ []) units.now) }
 {
-    let mut marks = wanted(alloc, units)?;
+    let mut flags = units_to_find(alloc, units)?;
     let mut key = library_key(alloc, library)?;
-    mark_files(alloc, files, &mut key, &mut marks)?;
-    mark_artefact(alloc, library, artefact, &mut key, &mut marks)?;
-    Ok(marks)
+    flag_files(alloc, files, &mut key, &mut flags)?;
+    flag_artefact(alloc, library, artefact, &mut key, &mut flags)?;
+    Ok(flags)
 }
 
 /// Puts a library among some.
@@ -186,7 +186,7 @@ fn put_next(
     put_new(alloc, library, libraries)
 }
 
-/// The libraries of files, of which that of the last is lent apart.
+/// The libraries of files, of which that of the last is borrowed apart.
 fn libraries_of<'a>(
     alloc: Global,
     files: &'a [BuiltFile],
@@ -210,10 +210,10 @@ fn is_missing(
     alloc: Global,
     unit: &UnitKey,
     libraries: &KeyMap<UnitKey, bool>,
-    marks: &KeyMap<UnitKey, bool>,
+    flags: &KeyMap<UnitKey, bool>,
 ) -> Result<bool, NoMemory>
     ensures { (files : List BuiltFile) (units : List UnitKey) →
-        KnowsLibraries files libraries.now → KnowsUnits files units marks.now →
+        KnowsLibraries files libraries.now → KnowsUnits files units flags.now →
         IsTrue (list_any (λ other. is_same_unit other unit.now) units) →
         IfOk result (λ missing. missing ≡ is_missing files unit.now) }
 {
@@ -221,7 +221,7 @@ fn is_missing(
     if libraries.get(&library).is_none() {
         return Ok(false);
     }
-    match marks.get(unit) {
+    match flags.get(unit) {
         Some(found) => Ok(!found),
         None => Ok(true),
     }
@@ -232,16 +232,16 @@ fn first_of<'a>(
     alloc: Global,
     units: &'a [UnitKey],
     libraries: &KeyMap<UnitKey, bool>,
-    marks: &KeyMap<UnitKey, bool>,
+    flags: &KeyMap<UnitKey, bool>,
 ) -> Result<Option<&'a UnitKey>, NoMemory>
     ensures { (files : List BuiltFile) →
-        KnowsLibraries files libraries.now → KnowsUnits files units.now marks.now →
+        KnowsLibraries files libraries.now → KnowsUnits files units.now flags.now →
         IfOk result (λ found. MatchOption found
         (first_missing files units.now ≡ None)
         (λ unit. first_missing files units.now ≡ Some unit.now)) }
 {
     for unit in units {
-        let missing = is_missing(alloc, unit, libraries, marks)?;
+        let missing = is_missing(alloc, unit, libraries, flags)?;
         if missing {
             return Ok(Some(unit));
         }
@@ -267,6 +267,6 @@ pub fn first_missing<'a>(
         return Ok(None);
     }
     let libraries = libraries_of(alloc, files, library)?;
-    let marks = marks_of(alloc, units, files, library, artefact)?;
-    first_of(alloc, units, &libraries, &marks)
+    let flags = flags_of(alloc, units, files, library, artefact)?;
+    first_of(alloc, units, &libraries, &flags)
 }

@@ -10,8 +10,8 @@ ghost use Rattle.child_tools.specs.Exports.{named_library, strict_unit, strict_u
 
 use base::{NoMemory, Ref, RoleList, Scan, TEXT_LIMIT, Text};
 use std::alloc::Global;
-use vhdl_keys::{UnitKey, unit_key};
-use vhdl_refs::find_refs;
+use vhdl_outline::find_refs;
+use vhdl_units::{UnitKey, unit_key};
 
 fn is_work(name: &[u8]) -> bool
     ensures { result ≡ bytes_eq name.now work }

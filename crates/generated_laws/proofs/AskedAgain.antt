@@ -79,8 +79,8 @@ module _ (edited : ℕ) (before after : List Entry) (edit : IsEdit edited before
           clean_file_is answer before valid makes at entry found_before
           ∙ ap₂ (λ (n : FileName) (asked : Asked). Some (record { name = n; artefact = (answer (request_of asked)).output })) (sym name) same
           ∙ sym (clean_file_is answer after valid_after makes_after at other found) in
-          let place : at ≡ edited = eqb-true at edited is in
-          ap (clean_file answer before) (sym place) ∙ here ∙ ap (clean_file answer after) place
+          let position : at ≡ edited = eqb-true at edited is in
+          ap (clean_file answer before) (sym position) ∙ here ∙ ap (clean_file answer after) position
       | inr below ↦
           let files : built_below old entry ≡ built_below new other = ap (λ (asked : Asked). asked.below) same in
           same_picked (λ dep. built_of (slice_get old dep)) (λ dep. built_of (slice_get new dep)) entry.deps (free answer before valid makes at entry found_before)

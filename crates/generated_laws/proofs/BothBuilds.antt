@@ -14,11 +14,11 @@ use Rattle.run_spec.specs.CleanBuild.{RecordsClean}
 use Rattle.run_spec.specs.ChildJournal.{Work, Answered, IsWhole}
 use Rattle.run_spec.specs.Commits.{work_of, commits}
 use Rattle.run_spec.specs.Faithful.{IsTrueRecord}
-use Rattle.run_spec.specs.declared.marks.Mark.TheVariants as mark
-use Rattle.run_spec.specs.Marks.{marks_of}
+use Rattle.run_spec.specs.declared.statuses.FileStatus.TheVariants as status
+use Rattle.run_spec.specs.Statuses.{statuses_of}
 use Rattle.run_laws.proofs.CleanCommits.{commits_true}
 use Rattle.run_laws.proofs.TrueRecords.{records_clean, All-latest}
-use Rattle.build_loop.specs.Ran.{is_made}
+use Rattle.run_build.specs.Ran.{is_made}
 use Rattle.generated_laws.specs.Compiled.{CompilesOnly}
 use Rattle.generated_laws.specs.Edits.{MakesAll, ChangesFile, is_touched, touched_files}
 use Rattle.generated_laws.proofs.CompiledFiles.{bare, bare_clean, none_current, all_made, all_compiled, compiled}
@@ -27,11 +27,11 @@ use Rattle.generated_laws.proofs.AskedAgain.{tells}
 
 module _ (answer : Request → Exit) (slots : ℕ) (before : List Entry) (makes : MakesAll answer before) (first : List Event) (whole : IsWhole (bare slots before) first) (answered : Answered answer first) where
   -- the first build makes all files
-  pub first_made : list_all is_made (marks_of (bare slots before) first) ≡ true
+  pub first_made : list_all is_made (statuses_of (bare slots before) first) ≡ true
   first_made = all_made answer (bare slots before) makes.graph_form makes.accepts (bare_clean answer slots before makes.graph_form) first whole answered
 
   -- and compiles them
-  pub first_compiled : CompilesOnly before (λ at. true) (length before) (marks_of (bare slots before) first)
+  pub first_compiled : CompilesOnly before (λ at. true) (length before) (statuses_of (bare slots before) first)
   first_compiled = all_compiled answer slots before makes.graph_form makes.accepts first whole answered
 
   abbrev records : List Record
@@ -52,17 +52,17 @@ module _ (answer : Request → Exit) (slots : ℕ) (before : List Entry) (makes 
 
     module _ (second : List Event) (whole_again : IsWhole again second) (answered_again : Answered answer second) where
       -- the second build makes all files
-      pub second_made : list_all is_made (marks_of again second) ≡ true
+      pub second_made : list_all is_made (statuses_of again second) ≡ true
       second_made = all_made answer again makes_after.graph_form makes_after.accepts again_clean second whole_again answered_again
 
       -- and compiles those that are touched
-      pub second_compiled : (edited : ℕ) → ChangesFile answer edited before after → CompilesOnly before (is_touched before edited) (touched_files before edited) (marks_of again second)
+      pub second_compiled : (edited : ℕ) → ChangesFile answer edited before after → CompilesOnly before (is_touched before edited) (touched_files before edited) (statuses_of again second)
       second_compiled edited changes =
-          let is : CompilesOnly after (is_touched before edited) (count_by (is_touched before edited) (below (length after))) (marks_of again second) =
+          let is : CompilesOnly after (is_touched before edited) (count_by (is_touched before edited) (below (length after))) (statuses_of again second) =
           compiled answer again makes_after.graph_form makes_after.accepts again_clean second whole_again answered_again (is_touched before edited)
           (tells edited before after changes.edit answer makes.graph_form makes_after.graph_form makes.accepts makes_after.accepts latest_of
           (λ at entry found. latest_is answer (bare slots before) makes.graph_form makes.accepts (bare_clean answer slots before makes.graph_form) first whole answered at entry found (none_current before at)) changes.differs) in
           record {
-            marks_are = is.marks_are ∙ ap (λ (count : ℕ). map (λ at. cond (is_touched before edited at) mark.Compiled mark.Fresh) (below count)) changes.edit.count;
+            statuses_are = is.statuses_are ∙ ap (λ (count : ℕ). map (λ at. cond (is_touched before edited at) status.Compiled status.Fresh) (below count)) changes.edit.count;
             count_is = is.count_is ∙ ap (λ (count : ℕ). count_by (is_touched before edited) (below count)) changes.edit.count;
           }

@@ -19,21 +19,21 @@ use Rattle.base.specs.Graphs.{IsGraph}
 use Rattle.base.specs.Jobs.{compile_request}
 use Rattle.outside.specs.Records.{Asked, Record, asked_of, is_of, latest, deps_at}
 use Rattle.run_spec.specs.CleanBuild.{Result, RecordsClean, built_of, built_below, clean_build, clean_request, is_free}
-use Rattle.run_spec.specs.ChildJournal.{Work, End, child_of_end, output_at, or_else, has_all, built_at, built_file, artefact_so_far, artefact_after, book_of, Answered, IsWhole}
+use Rattle.run_spec.specs.ChildJournal.{Work, End, child_of_end, output_at, or_else, has_all, built_at, built_file, artefact_so_far, artefact_after, progress_of, Answered, IsWhole}
 use Rattle.run_spec.specs.Commits.{record_at, commit_of, commits_of, commits}
 use Rattle.run_spec.specs.Settled.{artefact_settled}
 use Rattle.run_spec.proofs.Artefacts.{deps_before, artefact_free, artefact_deps}
 use Rattle.run_spec.proofs.BuiltLists.{built_more}
 use Rattle.run_spec.proofs.LatestRecords.{latest_none}
 use Rattle.run_spec.proofs.RecordNames.{asked_is, is_of_own, is_of_other}
-use Rattle.run_laws.proofs.CleanPlaces.{filter_map-same}
+use Rattle.run_laws.proofs.CleanRanks.{filter_map-same}
 use Rattle.run_laws.proofs.CleanSettled.{file_settled}
 use Rattle.run_laws.proofs.JournalAnswers.{answers_of}
-use Rattle.run_laws.proofs.JournalBooks.{some_value}
+use Rattle.run_laws.proofs.JournalProgress.{some_value}
 use Rattle.run_laws.proofs.JournalSettled.{made_settled_so_far, all_files_made}
 use Rattle.generated_laws.specs.Edits.{AcceptsAll}
 use Rattle.generated_laws.proofs.MadeFiles.{entry_deps, asks, free}
-use Rattle.generated_laws.proofs.MarksUnrefused.{end_clean, none_refused}
+use Rattle.generated_laws.proofs.StatusesUnrefused.{end_clean, none_refused}
 use Rattle.generated_laws.proofs.StartedOver.{IsEndStarted, ends_started}
 
 -- the latest record of a name, where all records of the name are the same
@@ -79,7 +79,7 @@ module _ (answer : Request → Exit) (work : Work) (valid : IsGraph work.graph) 
 
   module _ (events : List Event) (whole : IsWhole work events) (answered : Answered answer events) where
     abbrev ends : List End
-    ends = (book_of work events).ends
+    ends = (progress_of work events).ends
 
     -- what would be committed of an end
     abbrev IsWanted : End → Type 0

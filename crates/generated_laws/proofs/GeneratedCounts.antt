@@ -11,16 +11,16 @@ use Rattle.base_outcomes.specs.declared.outcome.Outcome.{Outcome}
 use Rattle.base_outcomes.specs.declared.outcome.Outcome.TheVariants as outcome
 use Rattle.run_spec.specs.ChildJournal.{Work}
 use Rattle.run_spec.specs.JournalParts.{compile_part, test_part}
-use Rattle.run_spec.specs.Marks.{is_compiled, marks_of}
-use Rattle.run_steps.specs.declared.fault.RunFault.{RunFault}
-use Rattle.build_loop.specs.Ran.{is_made}
-use Rattle.test_spec.specs.declared.ends.RunEnd.{RunEnd}
-use Rattle.test_spec.specs.Verdicts.{is_passed_verdict}
-use Rattle.test_journal.specs.TestJournal.{TestSetting, IsWholeTests}
-use Rattle.test_loop.specs.Results.{test_ends}
-use Rattle.report_verdicts.specs.Counts.{all_verdicts, tests_outcome}
-use Rattle.run_tested_laws.specs.Libraries.{libraries}
-use Rattle.run_tested_laws.proofs.CleanLibraries.{built_clean}
+use Rattle.run_spec.specs.Statuses.{is_compiled, statuses_of}
+use Rattle.run_spec.specs.declared.fault.RunFault.{RunFault}
+use Rattle.run_build.specs.Ran.{is_made}
+use Rattle.testbench_runs.specs.declared.ends.RunEnd.{RunEnd}
+use Rattle.testbench_runs.specs.Verdicts.{is_passed_verdict}
+use Rattle.run_spec.specs.TestJournal.{TestSetting, IsWholeTests}
+use Rattle.run_tests.specs.Results.{test_ends}
+use Rattle.report.specs.Counts.{all_verdicts, tests_outcome}
+use Rattle.run_tests.specs.Libraries.{libraries}
+use Rattle.run_tests.proofs.CleanLibraries.{built_clean}
 use Rattle.project_reading.specs.Reading.{SourceReading, Found}
 use Rattle.project_reading.specs.declared.linking.ReadProject.{ReadProject}
 use Rattle.generated_project.specs.Files.{files_in}
@@ -28,7 +28,7 @@ use Rattle.generated_project.specs.Lines.{count_lines}
 use Rattle.generated_runs.specs.declared.options.GenerateOptions.{GenerateOptions}
 use Rattle.generated_runs.specs.declared.options.GeneratedSaid.{GeneratedSaid}
 use Rattle.generated_runs.specs.Sources.{first_work, first_records, second_work, setting_of, runs_in, plan_of}
-use Rattle.generated_runs.specs.Said.{marks_said, tests_of, tested_said, second_said}
+use Rattle.generated_runs.specs.Said.{statuses_said, tests_of, tested_said, second_said}
 use Rattle.generated_runs.specs.Ran.{RanBuild, RanSecond, RanGenerated}
 use Rattle.generated_laws.specs.Compiled.{CompilesOnly}
 use Rattle.generated_laws.specs.Edits.{MakesAll, ChangesFile, is_touched, touched_files}
@@ -48,10 +48,10 @@ module _ (answer : Request → Exit) (options : GenerateOptions) (read : ReadPro
   built : RanBuild answer work (OnOk (gives said)) ran.first
   built = ran.built read refl
 
-  first_made : list_all is_made (marks_of work ran.first) ≡ true
+  first_made : list_all is_made (statuses_of work ran.first) ≡ true
   first_made = builds.first_made answer options.slots read.graph makes ran.first built.ended built.answered
 
-  pub first_compiled : CompilesOnly read.graph (λ at. true) (length read.graph) (marks_of work ran.first)
+  pub first_compiled : CompilesOnly read.graph (λ at. true) (length read.graph) (statuses_of work ran.first)
   first_compiled = builds.first_compiled answer options.slots read.graph makes ran.first built.ended built.answered
 
 module _ (answer : Request → Exit) (options : GenerateOptions) (read again : ReadProject) (makes : MakesAll answer read.graph) (makes_again : MakesAll answer again.graph)
@@ -74,7 +74,7 @@ module _ (answer : Request → Exit) (options : GenerateOptions) (read again : R
   begun : RanBuild answer (first_work options read.graph) (OnOk (gives said)) first
   begun = ran.built read refl
 
-  begun_made : list_all is_made (marks_of (first_work options read.graph) first) ≡ true
+  begun_made : list_all is_made (statuses_of (first_work options read.graph) first) ≡ true
   begun_made = first_made answer options read makes (Found again) said events ran
 
   -- ## The second build
@@ -82,10 +82,10 @@ module _ (answer : Request → Exit) (options : GenerateOptions) (read again : R
   ran_again : RanSecond answer work_again (setting_of options again work_again) (OnOk (gives said)) ran.second
   ran_again = ran.ran read again refl refl begun_made
 
-  second_made : list_all is_made (marks_of work_again compiled) ≡ true
+  second_made : list_all is_made (statuses_of work_again compiled) ≡ true
   second_made = builds.second_made answer options.slots read.graph makes first begun.ended begun.answered again.graph makes_again compiled ran_again.built.ended ran_again.built.answered
 
-  pub second_compiled : (edited : ℕ) → ChangesFile answer edited read.graph again.graph → CompilesOnly read.graph (is_touched read.graph edited) (touched_files read.graph edited) (marks_of work_again compiled)
+  pub second_compiled : (edited : ℕ) → ChangesFile answer edited read.graph again.graph → CompilesOnly read.graph (is_touched read.graph edited) (touched_files read.graph edited) (statuses_of work_again compiled)
   second_compiled edited changes =
       builds.second_compiled answer options.slots read.graph makes first begun.ended begun.answered again.graph makes_again compiled ran_again.built.ended ran_again.built.answered edited changes
 
@@ -117,7 +117,7 @@ module _ (answer : Request → Exit) (options : GenerateOptions) (read again : R
     is_done = done answer setting refl passes_built tests whole_tests ran_again.replied options.exit_0
 
     is_end : tests_of options again work_again ran.second ≡ Some (record { runs = ends })
-    is_end = cond-true (list_all is_made (marks_of work_again compiled)) (Some (record { runs = ends })) None second_made
+    is_end = cond-true (list_all is_made (statuses_of work_again compiled)) (Some (record { runs = ends })) None second_made
 
     pub have_passed : HavePassed (runs_in again) (tests_of options again work_again ran.second)
     have_passed = record { end = record { runs = ends }; is_end = is_end; total = total; passed = passed }
@@ -133,9 +133,9 @@ module _ (answer : Request → Exit) (options : GenerateOptions) (read again : R
 
     pub said_is : (edited : ℕ) → ChangesFile answer edited read.graph again.graph → said ≡ passed_said options edited read again
     said_is edited changes =
-        let count : ℕ = count_by is_compiled (marks_of (first_work options read.graph) first) in
+        let count : ℕ = count_by is_compiled (statuses_of (first_work options read.graph) first) in
         ran.says
-        ∙ cond-true (list_all is_made (marks_of (first_work options read.graph) first)) (second_said options count records (Found again) ran.second) (marks_said read (marks_of (first_work options read.graph) first)) begun_made
-        ∙ ap (tested_said options count again (marks_of work_again compiled)) is_end
-        ∙ numbers count (count_by is_compiled (marks_of work_again compiled)) (count_by is_passed_verdict (all_verdicts ends)) (length (all_verdicts ends)) (tests_outcome ends options.exit_0) outcome.Done
+        ∙ cond-true (list_all is_made (statuses_of (first_work options read.graph) first)) (second_said options count records (Found again) ran.second) (statuses_said read (statuses_of (first_work options read.graph) first)) begun_made
+        ∙ ap (tested_said options count again (statuses_of work_again compiled)) is_end
+        ∙ numbers count (count_by is_compiled (statuses_of work_again compiled)) (count_by is_passed_verdict (all_verdicts ends)) (length (all_verdicts ends)) (tests_outcome ends options.exit_0) outcome.Done
         (first_compiled answer options read makes (Found again) said events ran).count_is (second_compiled edited changes).count_is passed total is_done

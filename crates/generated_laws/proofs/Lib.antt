@@ -1,7 +1,9 @@
 -- The lemmas.
+pub mod ReadTexts
+pub mod Readings
 pub mod MadeFiles
-pub mod SteadyMarks
-pub mod MarksUnrefused
+pub mod SteadyStatuses
+pub mod StatusesUnrefused
 pub mod CompiledFiles
 pub mod StartedOver
 pub mod CommittedRecords
@@ -10,3 +12,12 @@ pub mod AskedAgain
 pub mod BothBuilds
 pub mod PassedCases
 pub mod GeneratedCounts
+pub mod Lists
+pub mod Counted
+pub mod Fitting
+pub mod Graphs
+pub mod Uses
+pub mod Edits
+pub mod Builds
+pub mod Permuted
+pub mod Touched

@@ -14,7 +14,7 @@ use Rattle.outside.specs.Records.{deps_at}
 use Rattle.run_spec.specs.CleanBuild.{Result, Made, Refused, Blocked, built_of, built_below, result_of, is_free, clean_build}
 use Rattle.run_spec.proofs.Artefacts.{deps_before}
 use Rattle.run_spec.proofs.FoldLaws.{by_all_below}
-use Rattle.run_laws.proofs.CleanPlaces.{clean_at}
+use Rattle.run_laws.proofs.CleanRanks.{clean_at}
 use Rattle.run_laws.proofs.JournalKeeps.{list_all-from_All}
 use Rattle.generated_laws.specs.Edits.{AcceptsAll, clean_file}
 

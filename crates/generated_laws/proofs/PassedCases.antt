@@ -14,21 +14,21 @@ use Rattle.base.specs.declared.child.Event.{Event}
 use Rattle.base.specs.declared.child.MaybeText.{MaybeText}
 use Rattle.base.specs.declared.child.MaybeText.TheVariants.{Nothing, Given}
 use Rattle.base_outcomes.specs.declared.outcome.Outcome.TheVariants as outcome
-use Rattle.test_spec.specs.declared.runs.TestRun.{TestRun}
-use Rattle.test_spec.specs.declared.ends.RunEnd.{RunEnd}
-use Rattle.test_spec.specs.declared.ends.Verdict.{Verdict}
-use Rattle.test_spec.specs.BenchJobs.{bench_request}
-use Rattle.test_spec.specs.Runs.{name_of_case, counted_cases, case_names}
-use Rattle.test_spec.specs.Verdicts.{verdicts, run_verdicts, is_passed, is_passed_verdict, ended_run}
-use Rattle.test_journal.specs.TestJournal.{TestSetting, IsWholeTests, book_of_tests}
-use Rattle.test_loop.specs.Results.{run_exit, run_end, run_ends, test_ends}
+use Rattle.testbench_runs.specs.declared.runs.TestRun.{TestRun}
+use Rattle.testbench_runs.specs.declared.ends.RunEnd.{RunEnd}
+use Rattle.testbench_runs.specs.declared.ends.Verdict.{Verdict}
+use Rattle.testbench_runs.specs.BenchJobs.{bench_request}
+use Rattle.testbench_runs.specs.Runs.{name_of_case, counted_cases, case_names}
+use Rattle.testbench_runs.specs.Verdicts.{verdicts, run_verdicts, is_passed, is_passed_verdict, ended_run}
+use Rattle.run_spec.specs.TestJournal.{TestSetting, IsWholeTests, progress_of_tests}
+use Rattle.run_tests.specs.Results.{run_exit, run_end, run_ends, test_ends}
 use Rattle.run_spec.specs.ChildJournal.{Answered}
-use Rattle.report_verdicts.specs.Counts.{all_verdicts, has_run_passed, have_all_passed, tests_outcome}
+use Rattle.report.specs.Counts.{all_verdicts, has_run_passed, have_all_passed, tests_outcome}
 use Rattle.generated_laws.specs.Passes.{PassesAll, case_count}
-use Rattle.run_tested_laws.proofs.TestsEnded.{exits}
+use Rattle.run_tests.proofs.TestsEnded.{exits}
 
 -- all pass
-count_all : (marks : List Verdict) → list_all is_passed_verdict marks ≡ true → count_by is_passed_verdict marks ≡ length marks
+count_all : (statuses : List Verdict) → list_all is_passed_verdict statuses ≡ true → count_by is_passed_verdict statuses ≡ length statuses
 count_all [] all = refl
 count_all (first ∷ rest) all =
     let parts = and_parts (is_passed_verdict first) (list_all is_passed_verdict rest) all in
@@ -79,7 +79,7 @@ counted exit_of (run ∷ runs) pass =
 
 module _ (answer : Request → Exit) (setting : TestSetting) (going : setting.plan.fail_fast ≡ false) (passes : PassesAll answer setting.plan setting.built)
     (events : List Event) (whole : IsWholeTests setting events) (answered : Answered answer events) where
-  all_pass : Pass (run_exit (book_of_tests setting events).ends) setting.plan.runs
+  all_pass : Pass (run_exit (progress_of_tests setting events).ends) setting.plan.runs
   all_pass k run found =
       let lt : k < length setting.plan.runs = slice_get_within setting.plan.runs k run found in
       let request : Request = bench_request run setting.plan.simulator setting.built in (
@@ -89,7 +89,7 @@ module _ (answer : Request → Exit) (setting : TestSetting) (going : setting.pl
       )
 
   ends_counted : AreCounted setting.plan.runs (test_ends setting events)
-  ends_counted = counted (run_exit (book_of_tests setting events).ends) setting.plan.runs all_pass
+  ends_counted = counted (run_exit (progress_of_tests setting events).ends) setting.plan.runs all_pass
 
   pub total_is : length (all_verdicts (test_ends setting events)) ≡ case_count setting.plan.runs
   total_is = ends_counted.total

@@ -14,7 +14,7 @@ use Rattle.outside.specs.Records.{deps_at}
 use Rattle.run_spec.specs.CleanBuild.{Result, built_of, built_below, clean_build}
 use Rattle.run_spec.proofs.FoldLaws.{by_all_below}
 use Rattle.run_laws.proofs.SparedRuns.{unheld}
-use Rattle.run_laws.proofs.CleanPlaces.{clean_at, length-clean, same_next, filter_map-same}
+use Rattle.run_laws.proofs.CleanRanks.{clean_at, length-clean, same_next, filter_map-same}
 use Rattle.generated_laws.specs.Edits.{IsEdit, is_touched}
 use Rattle.generated_laws.proofs.MadeFiles.{entry_deps}
 

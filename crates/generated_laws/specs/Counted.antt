@@ -1,9 +1,9 @@
 -- What is said of the generated project where all of its files are made and all of its cases pass.
 use Rattle.std.specs.Prelude.{◌≡◌, ℕ, List, length, Option, Some}
 use Rattle.base_outcomes.specs.declared.outcome.Outcome.TheVariants as outcome
-use Rattle.test_spec.specs.declared.ends.TestEnd.{TestEnd}
-use Rattle.test_spec.specs.declared.runs.TestRun.{TestRun}
-use Rattle.report_verdicts.specs.Counts.{all_verdicts, tally}
+use Rattle.testbench_runs.specs.declared.ends.TestEnd.{TestEnd}
+use Rattle.testbench_runs.specs.declared.runs.TestRun.{TestRun}
+use Rattle.report.specs.Counts.{all_verdicts, tally}
 use Rattle.project_reading.specs.declared.linking.ReadProject.{ReadProject}
 use Rattle.generated_project.specs.Files.{files_in}
 use Rattle.generated_project.specs.Lines.{count_lines}

@@ -1,5 +1,10 @@
 -- The definitions.
+pub mod ReadFiles
 pub mod Edits
 pub mod Compiled
 pub mod Passes
 pub mod Counted
+pub mod NumberedGraphs
+pub mod NumberedBuilds
+pub mod TouchedNumbers
+pub mod NumberedExamples

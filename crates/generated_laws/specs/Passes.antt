@@ -4,11 +4,11 @@ use Rattle.std.specs.List.{flat_map}
 use Rattle.base.specs.declared.graph.BuiltFile.{BuiltFile}
 use Rattle.base.specs.declared.child.Request.{Request}
 use Rattle.base.specs.declared.child.Exit.{Exit}
-use Rattle.test_spec.specs.declared.runs.TestRun.{TestRun}
-use Rattle.test_spec.specs.BenchJobs.{bench_request}
-use Rattle.test_spec.specs.Runs.{case_names}
-use Rattle.test_spec.specs.Verdicts.{is_passed}
-use Rattle.test_journal.specs.TestJournal.{TestPlan}
+use Rattle.testbench_runs.specs.declared.runs.TestRun.{TestRun}
+use Rattle.testbench_runs.specs.BenchJobs.{bench_request}
+use Rattle.testbench_runs.specs.Runs.{case_names}
+use Rattle.testbench_runs.specs.Verdicts.{is_passed}
+use Rattle.run_spec.specs.TestJournal.{TestPlan}
 
 -- The simulator answers what it is asked for each run of a plan over these libraries so that all cases of the run pass.
 abbrev pub PassesAll : (Request → Exit) → TestPlan → List BuiltFile → Type 0

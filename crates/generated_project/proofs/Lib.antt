@@ -1,4 +1,4 @@
 -- The lemmas.
 pub mod Packages
 mod Paths
-mod Places
+mod Indices

@@ -4,15 +4,15 @@ use Rattle.base.specs.declared.graph.Entry.{Entry}
 use Rattle.base.specs.declared.child.Request.{Request}
 use Rattle.base.specs.declared.child.Exit.{Exit}
 use Rattle.base.specs.declared.child.Event.{Event}
-use Rattle.run_spec.specs.declared.marks.Mark.{Mark}
+use Rattle.run_spec.specs.declared.statuses.FileStatus.{FileStatus}
 use Rattle.outside.specs.Disks.{DiskState, Moments, IsImage, IsSound, reads_of}
 use Rattle.run_spec.specs.ChildJournal.{Work}
 use Rattle.run_spec.proofs.Parts.{build_parts}
-use Rattle.run_histories.specs.Histories.{Order}
-use Rattle.run_steps.specs.declared.fault.RunFault.{RunFault}
+use Rattle.run_spec.specs.Histories.{Order}
+use Rattle.run_spec.specs.declared.fault.RunFault.{RunFault}
 use Rattle.run_build.specs.Building.{BuildsOver}
 use Rattle.run_build.specs.Orders.{order_by}
-use Rattle.store_requests.specs.Stored.{requests_in}
+use Rattle.store.specs.Stored.{requests_in}
 use Rattle.generated_runs.specs.declared.options.GenerateOptions.{GenerateOptions}
 use Rattle.generated_runs.specs.Sources.{first_work}
 use Rattle.generated_runs.specs.Ran.{RanFirst}
@@ -29,14 +29,14 @@ module _ (answer : Request → Exit) (options : GenerateOptions) (graph : List E
   abbrev work : Work
   work = first_work options graph
 
-  abbrev Over : Result (List Mark) RunFault → Type 0
+  abbrev Over : Result (List FileStatus) RunFault → Type 0
   Over result = BuildsOver requests_in answer (first_order options graph) result failed old new events
 
-  pub first_ended : IsSound new.now → (marks : List Mark) → Over (Ok marks) → RanFirst answer work (Ok marks) new.now events
-  first_ended sound marks over = record {
+  pub first_ended : IsSound new.now → (statuses : List FileStatus) → Over (Ok statuses) → RanFirst answer work (Ok statuses) new.now events
+  first_ended sound statuses over = record {
     built = record { graph = λ some. over.graph_form; whole_graph = over.graph_form; lawful = over.lawful; answered = over.answered; ended = over.whole };
     compilers = build_parts work events over.lawful;
-    marks = over.marks;
+    statuses = over.statuses;
     records = over.emptied refl (reads_of new.now) (readable new.now sound);
   }
 
@@ -44,6 +44,6 @@ module _ (answer : Request → Exit) (options : GenerateOptions) (graph : List E
   first_faulted why other over = record {
     built = record { graph = λ some. over.graph_form; whole_graph = tt; lawful = over.lawful; answered = over.answered; ended = tt };
     compilers = build_parts work events over.lawful;
-    marks = tt;
+    statuses = tt;
     records = tt;
   }

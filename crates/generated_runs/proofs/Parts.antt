@@ -8,24 +8,24 @@ use Rattle.base.specs.declared.child.Request.{Request}
 use Rattle.base.specs.declared.child.Exit.{Exit}
 use Rattle.base.specs.declared.child.Event.{Event}
 use Rattle.outside.specs.Records.{Record}
-use Rattle.run_spec.specs.declared.marks.Mark.{Mark}
+use Rattle.run_spec.specs.declared.statuses.FileStatus.{FileStatus}
 use Rattle.outside.specs.Disks.{DiskState}
 use Rattle.run_spec.specs.Moves.{LawfulMoves}
 use Rattle.run_spec.specs.ChildJournal.{Work, EachAfter, since}
 use Rattle.run_spec.specs.JournalParts.{compile_part}
-use Rattle.run_spec.specs.Marks.{is_compiled, marks_of}
+use Rattle.run_spec.specs.Statuses.{is_compiled, statuses_of}
 use Rattle.run_spec.proofs.Journal.{since-added}
 use Rattle.run_spec.proofs.Prefixes.{lawful_none}
-use Rattle.run_steps.specs.declared.fault.RunFault.{RunFault}
-use Rattle.build_loop.specs.Ran.{is_made}
-use Rattle.test_journal.specs.TestJournal.{TestSetting, LawfulTests, test_moves, AreTestsRequested}
-use Rattle.run_tested.specs.declared.testing.Tested.{Tested}
+use Rattle.run_spec.specs.declared.fault.RunFault.{RunFault}
+use Rattle.run_build.specs.Ran.{is_made}
+use Rattle.run_spec.specs.TestJournal.{TestSetting, LawfulTests, test_moves, AreTestsRequested}
+use Rattle.run_tests.specs.declared.build_and_test.Tested.{Tested}
 use Rattle.project_reading.specs.Reading.{SourceReading, Found}
 use Rattle.project_reading.specs.declared.linking.ReadProject.{ReadProject}
 use Rattle.generated_runs.specs.declared.options.GenerateOptions.{GenerateOptions}
 use Rattle.generated_runs.specs.declared.options.GeneratedSaid.{GeneratedSaid}
 use Rattle.generated_runs.specs.Sources.{first_work, first_records, second_work, setting_of}
-use Rattle.generated_runs.specs.Said.{marks_said, tested_said, second_said, generated_said}
+use Rattle.generated_runs.specs.Said.{statuses_said, tested_said, second_said, generated_said}
 use Rattle.generated_runs.specs.Ran.{RanBuild, RanFirst, RanSecond, RanTested, RanEdited, RanGenerated, IsRightBuild, IsRightSecond}
 use Rattle.generated_runs.proofs.Rights.{nothing_right, nothing_tested, right_first, right_second}
 
@@ -118,13 +118,13 @@ module _ (answer : Request → Exit) (options : GenerateOptions) (records : List
       says = tt;
     }
 
-    pub edited_said : (tested : Tested) (said : GeneratedSaid) → RanTested answer work options read (Ok tested) events → said ≡ tested_said options first read tested.marks tested.tests → RanEdited answer options (Found read) records first (Ok said) events
+    pub edited_said : (tested : Tested) (said : GeneratedSaid) → RanTested answer work options read (Ok tested) events → said ≡ tested_said options first read tested.statuses tested.tests → RanEdited answer options (Found read) records first (Ok said) events
     edited_said tested said ran says = record {
       ran = λ other is. moved (Ok said) (same tested said ran.ran) other is;
       unread = λ none. absurd (none read refl);
       says = says
-          ∙ ap (λ (m : List Mark). tested_said options first read m tested.tests) ran.marks
-          ∙ ap (tested_said options first read (marks_of work (compile_part events))) ran.tests;
+          ∙ ap (λ (m : List FileStatus). tested_said options first read m tested.tests) ran.statuses
+          ∙ ap (tested_said options first read (statuses_of work (compile_part events))) ran.tests;
     }
 
 -- ## Both
@@ -169,13 +169,13 @@ module _ (answer : Request → Exit) (options : GenerateOptions) (edited : Sourc
     by_read : (P : ReadProject → Type 0) → P read → (other : ReadProject) → Found read ≡ Found other → P other
     by_read P p other is = subst P (same_read read other is) p
 
-    faulted : (result : Result (List Mark) RunFault) (why : RunFault) (disk : DiskState) (events : List Event) → RanFirst answer built_first result disk events → RanBuild answer built_first (OnOk (fails why)) events
+    faulted : (result : Result (List FileStatus) RunFault) (why : RunFault) (disk : DiskState) (events : List Event) → RanFirst answer built_first result disk events → RanBuild answer built_first (OnOk (fails why)) events
     faulted result why disk events ran = record { graph = ran.built.graph; whole_graph = tt; lawful = ran.built.lawful; answered = ran.built.answered; ended = tt }
 
     -- the first build had a fault, or what was to be said of it found no memory
-    pub first_fault : (result : Result (List Mark) RunFault) (why : RunFault) (disk : DiskState) (events : List Event) → RanFirst answer built_first result disk events →
+    pub earlier_fault : (result : Result (List FileStatus) RunFault) (why : RunFault) (disk : DiskState) (events : List Event) → RanFirst answer built_first result disk events →
         RanGenerated answer options (Found read) edited (Err why) events
-    first_fault result why disk events ran = record {
+    earlier_fault result why disk events ran = record {
       first = events;
       second = [];
       parted = sym (append-nil events);
@@ -189,7 +189,7 @@ module _ (answer : Request → Exit) (options : GenerateOptions) (edited : Sourc
       says = tt;
     }
 
-    module _ (marks : List Mark) (disk : DiskState) (events : List Event) (ran : RanFirst answer built_first (Ok marks) disk events) where
+    module _ (statuses : List FileStatus) (disk : DiskState) (events : List Event) (ran : RanFirst answer built_first (Ok statuses) disk events) where
       on_any : {X : Type 0} → X → (r : Result GeneratedSaid RunFault) → OnOk r X
       on_any x (Ok said) = x
       on_any x (Err why) = tt
@@ -198,7 +198,7 @@ module _ (answer : Request → Exit) (options : GenerateOptions) (edited : Sourc
       ended r = record { graph = ran.built.graph; whole_graph = on_any ran.built.whole_graph r; lawful = ran.built.lawful; answered = ran.built.answered; ended = on_any ran.built.ended r }
 
       -- a file isn't made
-      pub first_said : (said : GeneratedSaid) → list_all is_made marks ≡ false → said ≡ marks_said read marks → RanGenerated answer options (Found read) edited (Ok said) events
+      pub first_said : (said : GeneratedSaid) → list_all is_made statuses ≡ false → said ≡ statuses_said read statuses → RanGenerated answer options (Found read) edited (Ok said) events
       first_said said left says = record {
         first = events;
         second = [];
@@ -207,16 +207,16 @@ module _ (answer : Request → Exit) (options : GenerateOptions) (edited : Sourc
         built = by_read (λ r. RanBuild answer (first_work options r.graph) (OnOk (gives said)) events) (ended (gives said));
         compilers = ran.compilers;
         halted = λ other is h. refl;
-        ran = λ other again is found made. absurd (false≢true (sym (ap (list_all is_made) (sym ran.marks) ∙ left) ∙ by_read (λ r. list_all is_made (marks_of (first_work options r.graph) events) ≡ true → list_all is_made (marks_of built_first events) ≡ true) (λ h. h) other is made));
+        ran = λ other again is found made. absurd (false≢true (sym (ap (list_all is_made) (sym ran.statuses) ∙ left) ∙ by_read (λ r. list_all is_made (statuses_of (first_work options r.graph) events) ≡ true → list_all is_made (statuses_of built_first events) ≡ true) (λ h. h) other is made));
         right = by_read (λ r. IsRightBuild answer (first_work options r.graph) (OnOk (gives said)) events) (right_first answer options read.graph (gives said) events (ended (gives said)));
-        right_again = λ other again is found made. absurd (false≢true (sym (ap (list_all is_made) (sym ran.marks) ∙ left) ∙ by_read (λ r. list_all is_made (marks_of (first_work options r.graph) events) ≡ true → list_all is_made (marks_of built_first events) ≡ true) (λ h. h) other is made));
-        says = says ∙ ap (marks_said read) ran.marks
-            ∙ sym (cond-false (list_all is_made (marks_of built_first events)) (second_said options (count_by is_compiled (marks_of built_first events)) (first_records options read.graph events) edited []) (marks_said read (marks_of built_first events)) (ap (list_all is_made) (sym ran.marks) ∙ left));
+        right_again = λ other again is found made. absurd (false≢true (sym (ap (list_all is_made) (sym ran.statuses) ∙ left) ∙ by_read (λ r. list_all is_made (statuses_of (first_work options r.graph) events) ≡ true → list_all is_made (statuses_of built_first events) ≡ true) (λ h. h) other is made));
+        says = says ∙ ap (statuses_said read) ran.statuses
+            ∙ sym (cond-false (list_all is_made (statuses_of built_first events)) (second_said options (count_by is_compiled (statuses_of built_first events)) (first_records options read.graph events) edited []) (statuses_said read (statuses_of built_first events)) (ap (list_all is_made) (sym ran.statuses) ∙ left));
       }
 
       -- all are made, and the second part follows
-      pub both_ran : (result : Result GeneratedSaid RunFault) (later all : List Event) → list_all is_made marks ≡ true → all ≡ events ++ later →
-          RanEdited answer options edited (first_records options read.graph events) (count_by is_compiled marks) result later → RanGenerated answer options (Found read) edited result all
+      pub both_ran : (result : Result GeneratedSaid RunFault) (later all : List Event) → list_all is_made statuses ≡ true → all ≡ events ++ later →
+          RanEdited answer options edited (first_records options read.graph events) (count_by is_compiled statuses) result later → RanGenerated answer options (Found read) edited result all
       both_ran result later all made parted next = record {
         first = events;
         second = later;
@@ -224,19 +224,19 @@ module _ (answer : Request → Exit) (options : GenerateOptions) (edited : Sourc
         unread = λ none. absurd (none read refl);
         built = by_read (λ r. RanBuild answer (first_work options r.graph) (OnOk result) events) (ended result);
         compilers = ran.compilers;
-        halted = λ other is left. absurd (false≢true (sym (by_read (λ r. list_all is_made (marks_of (first_work options r.graph) events) ≡ false → list_all is_made (marks_of built_first events) ≡ false) (λ h. h) other is left) ∙ all_made));
+        halted = λ other is left. absurd (false≢true (sym (by_read (λ r. list_all is_made (statuses_of (first_work options r.graph) events) ≡ false → list_all is_made (statuses_of built_first events) ≡ false) (λ h. h) other is left) ∙ all_made));
         ran = λ other again is found h. by_read (λ r. RanSecond answer (second_work options (first_records options r.graph events) again.graph) (setting_of options again (second_work options (first_records options r.graph events) again.graph)) (OnOk result) later) (next.ran again found) other is;
         right = by_read (λ r. IsRightBuild answer (first_work options r.graph) (OnOk result) events) (right_first answer options read.graph result events (ended result));
         right_again = λ other again is found h. by_read (λ r. IsRightSecond answer options (second_work options (first_records options r.graph events) again.graph) again (OnOk result) later)
             (right_second answer options read.graph again events ran.built.whole_graph ran.built.lawful ran.built.answered result later (next.ran again found)) other is;
         says = both_says result next.says;
       } where
-        all_made : list_all is_made (marks_of built_first events) ≡ true
-        all_made = ap (list_all is_made) (sym ran.marks) ∙ made
+        all_made : list_all is_made (statuses_of built_first events) ≡ true
+        all_made = ap (list_all is_made) (sym ran.statuses) ∙ made
 
-        both_says : (r : Result GeneratedSaid RunFault) → IfOk r (λ said. said ≡ second_said options (count_by is_compiled marks) (first_records options read.graph events) edited later) → IfOk r (λ said. said ≡ generated_said options (Found read) edited events later)
+        both_says : (r : Result GeneratedSaid RunFault) → IfOk r (λ said. said ≡ second_said options (count_by is_compiled statuses) (first_records options read.graph events) edited later) → IfOk r (λ said. said ≡ generated_said options (Found read) edited events later)
         both_says (Err why) says = tt
         both_says (Ok said) says =
             says
-            ∙ ap (λ (m : List Mark). second_said options (count_by is_compiled m) (first_records options read.graph events) edited later) ran.marks
-            ∙ sym (cond-true (list_all is_made (marks_of built_first events)) (second_said options (count_by is_compiled (marks_of built_first events)) (first_records options read.graph events) edited later) (marks_said read (marks_of built_first events)) all_made)
+            ∙ ap (λ (m : List FileStatus). second_said options (count_by is_compiled m) (first_records options read.graph events) edited later) ran.statuses
+            ∙ sym (cond-true (list_all is_made (statuses_of built_first events)) (second_said options (count_by is_compiled (statuses_of built_first events)) (first_records options read.graph events) edited later) (statuses_said read (statuses_of built_first events)) all_made)

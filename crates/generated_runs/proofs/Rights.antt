@@ -16,17 +16,17 @@ use Rattle.run_spec.specs.ChildJournal.{Work, Lawful, Answered}
 use Rattle.run_spec.specs.CleanBuild.{RecordsClean}
 use Rattle.run_spec.specs.Faithful.{IsTrueRecord}
 use Rattle.run_spec.specs.JournalParts.{compile_part, test_part}
-use Rattle.run_spec.specs.Marks.{marks_of}
+use Rattle.run_spec.specs.Statuses.{statuses_of}
 use Rattle.run_laws.proofs.CleanCommits.{commits_true}
 use Rattle.run_laws.proofs.CleanSettled.{request_clean}
 use Rattle.run_laws.proofs.JournalSettled.{asked, all_started, all_steady}
 use Rattle.run_laws.proofs.TrueRecords.{records_clean, All-latest}
-use Rattle.run_steps.specs.declared.fault.RunFault.{RunFault}
-use Rattle.build_loop.specs.Ran.{is_made}
-use Rattle.test_journal.specs.TestJournal.{LawfulTests}
-use Rattle.run_tested_laws.proofs.CleanLibraries.{built_clean}
-use Rattle.run_tested_laws.specs.Rights.{clean_setting}
-use Rattle.run_tested_laws.proofs.TestedRights.{lawful_right, no_tests}
+use Rattle.run_spec.specs.declared.fault.RunFault.{RunFault}
+use Rattle.run_build.specs.Ran.{is_made}
+use Rattle.run_spec.specs.TestJournal.{LawfulTests}
+use Rattle.run_tests.proofs.CleanLibraries.{built_clean}
+use Rattle.run_tests.specs.Rights.{clean_setting}
+use Rattle.run_tests.proofs.TestedRights.{lawful_right, no_tests}
 use Rattle.project_reading.specs.declared.linking.ReadProject.{ReadProject}
 use Rattle.generated_runs.specs.declared.options.GenerateOptions.{GenerateOptions}
 use Rattle.generated_runs.specs.declared.options.GeneratedSaid.{GeneratedSaid}
@@ -111,7 +111,7 @@ module _ (answer : Request → Exit) (options : GenerateOptions) (graph : List E
     tests = lawful_right answer (second_order options read.graph) (plan_of read) (test_part events)
         (tests_over answer options again read (compile_part events) (test_part events) same ran.tested);
   } where
-    some_compiled : (compiled : List Event) → RanBuild answer again (OnOk r) compiled → list_all is_made (marks_of again compiled) ≡ true → IsGraph read.graph → (setting_of options read again compiled).built ≡ (clean_setting answer (second_order options read.graph) (plan_of read)).built
+    some_compiled : (compiled : List Event) → RanBuild answer again (OnOk r) compiled → list_all is_made (statuses_of again compiled) ≡ true → IsGraph read.graph → (setting_of options read again compiled).built ≡ (clean_setting answer (second_order options read.graph) (plan_of read)).built
     some_compiled compiled built made grown = built_clean answer again grown (clean_second answer options records are_true read.graph grown) compiled built.lawful built.answered made
 
     same : (test_part events ≡ [] → ⊥) → (setting_of options read again (compile_part events)).built ≡ (clean_setting answer (second_order options read.graph) (plan_of read)).built

@@ -7,21 +7,21 @@ use Rattle.base.specs.declared.child.Request.{Request}
 use Rattle.base.specs.declared.child.Exit.{Exit}
 use Rattle.base.specs.declared.child.Event.{Event}
 use Rattle.outside.specs.Records.{Record}
-use Rattle.run_spec.specs.declared.marks.Mark.{Mark}
+use Rattle.run_spec.specs.declared.statuses.FileStatus.{FileStatus}
 use Rattle.outside.specs.Disks.{DiskState, Moments}
 use Rattle.run_spec.specs.ChildJournal.{Work, Answered, IsWhole}
 use Rattle.base.specs.Graphs.{IsGraph}
 use Rattle.run_spec.specs.JournalParts.{compile_part, test_part}
-use Rattle.run_spec.specs.Marks.{marks_of}
-use Rattle.run_steps.specs.declared.fault.RunFault.{RunFault}
-use Rattle.build_loop.specs.Ran.{is_made}
-use Rattle.test_spec.specs.declared.ends.TestEnd.{TestEnd}
-use Rattle.test_spec.specs.declared.ends.RunEnd.{RunEnd}
-use Rattle.test_journal.specs.TestJournal.{TestSetting, LawfulTests, IsWholeTests}
-use Rattle.test_loop.specs.Results.{test_ends}
-use Rattle.run_tested.specs.declared.testing.Tested.{Tested}
-use Rattle.run_tested.specs.Tested.{SaysTests, TestsOver}
-use Rattle.store_requests.specs.Stored.{requests_in}
+use Rattle.run_spec.specs.Statuses.{statuses_of}
+use Rattle.run_spec.specs.declared.fault.RunFault.{RunFault}
+use Rattle.run_build.specs.Ran.{is_made}
+use Rattle.testbench_runs.specs.declared.ends.TestEnd.{TestEnd}
+use Rattle.testbench_runs.specs.declared.ends.RunEnd.{RunEnd}
+use Rattle.run_spec.specs.TestJournal.{TestSetting, LawfulTests, IsWholeTests}
+use Rattle.run_tests.specs.Results.{test_ends}
+use Rattle.run_tests.specs.declared.build_and_test.Tested.{Tested}
+use Rattle.run_tests.specs.Tested.{SaysTests, TestsOver}
+use Rattle.store.specs.Stored.{requests_in}
 use Rattle.project_reading.specs.declared.linking.ReadProject.{ReadProject}
 use Rattle.generated_runs.specs.declared.options.GenerateOptions.{GenerateOptions}
 use Rattle.generated_runs.specs.Sources.{second_work, second_order, plan_of, setting_of}
@@ -57,35 +57,35 @@ module _ (answer : Request → Exit) (options : GenerateOptions) (read : ReadPro
     moved : (P : List Event → List Event → Type 0) → P over.compiled over.tests → P (compile_part events) (test_part events)
     moved P p = subst (P (compile_part events)) (sym over.simulators) (subst (λ (l : List Event). P l over.tests) (sym over.compilers) p)
 
-    ran_over : (whole : Type 0 → Type 0) → whole (IsGraph read.graph) → whole (IsWhole work over.compiled) → whole (list_all is_made (marks_of work over.compiled) ≡ true → IsWholeTests (setting over.compiled) over.tests) → RanSecond answer work setting whole events
+    ran_over : (whole : Type 0 → Type 0) → whole (IsGraph read.graph) → whole (IsWhole work over.compiled) → whole (list_all is_made (statuses_of work over.compiled) ≡ true → IsWholeTests (setting over.compiled) over.tests) → RanSecond answer work setting whole events
     ran_over whole grown ended tested = record {
       parted = moved (λ c t. events ≡ c ++ t) over.parted;
       graph = λ some. over.builds.graph_form;
       built = moved (λ c t. RanBuild answer work whole c) (record { graph = λ some. over.builds.graph_form; whole_graph = grown; lawful = over.builds.lawful; answered = over.builds.answered; ended = ended });
-      made = moved (λ c t. (t ≡ [] → ⊥) → list_all is_made (marks_of work c) ≡ true) over.made;
+      made = moved (λ c t. (t ≡ [] → ⊥) → list_all is_made (statuses_of work c) ≡ true) over.made;
       tested = moved (λ c t. LawfulTests (setting c) t) over.lawful;
       replied = moved (λ c t. Answered answer t) over.answered;
-      all_tested = moved (λ c t. whole (list_all is_made (marks_of work c) ≡ true → IsWholeTests (setting c) t)) tested;
+      all_tested = moved (λ c t. whole (list_all is_made (statuses_of work c) ≡ true → IsWholeTests (setting c) t)) tested;
     }
 
   pub tested_ended : (tested : Tested) → Over (Ok tested) → RanTested answer work options read (Ok tested) events
   tested_ended tested over =
-      let marked : tested.marks ≡ marks_of work over.compiled =
-      subst (λ (r : Result (List Mark) RunFault). IfOk r (λ marks. marks ≡ marks_of work over.compiled)) over.gives.0 over.builds.marks in
-      let whole : IsWhole work over.compiled = subst (λ (r : Result (List Mark) RunFault). OnOk r (IsWhole work over.compiled)) over.gives.0 over.builds.whole in
-      let says : SaysTests (setting over.compiled) (list_all is_made (marks_of work over.compiled)) tested.tests over.tests =
-      subst (λ (m : List Mark). SaysTests (setting over.compiled) (list_all is_made m) tested.tests over.tests) marked over.gives.1 in
+      let has_status : tested.statuses ≡ statuses_of work over.compiled =
+      subst (λ (r : Result (List FileStatus) RunFault). IfOk r (λ statuses. statuses ≡ statuses_of work over.compiled)) over.gives.0 over.builds.statuses in
+      let whole : IsWhole work over.compiled = subst (λ (r : Result (List FileStatus) RunFault). OnOk r (IsWhole work over.compiled)) over.gives.0 over.builds.whole in
+      let says : SaysTests (setting over.compiled) (list_all is_made (statuses_of work over.compiled)) tested.tests over.tests =
+      subst (λ (m : List FileStatus). SaysTests (setting over.compiled) (list_all is_made m) tested.tests over.tests) has_status over.gives.1 in
       record {
-        ran = ran_over (Ok tested) over (OnOk (gives tested)) over.builds.graph_form whole (whole_if (setting over.compiled) (list_all is_made (marks_of work over.compiled)) tested.tests over.tests says);
-        marks = moved (Ok tested) over (λ c t. tested.marks ≡ marks_of work c) marked;
-        tests = moved (Ok tested) over (λ c t. tested.tests ≡ (if list_all is_made (marks_of work c) then Some (record { runs = test_ends (setting c) t }) else None))
-            (ends_said (setting over.compiled) (list_all is_made (marks_of work over.compiled)) tested.tests over.tests says);
+        ran = ran_over (Ok tested) over (OnOk (gives tested)) over.builds.graph_form whole (whole_if (setting over.compiled) (list_all is_made (statuses_of work over.compiled)) tested.tests over.tests says);
+        statuses = moved (Ok tested) over (λ c t. tested.statuses ≡ statuses_of work c) has_status;
+        tests = moved (Ok tested) over (λ c t. tested.tests ≡ (if list_all is_made (statuses_of work c) then Some (record { runs = test_ends (setting c) t }) else None))
+            (ends_said (setting over.compiled) (list_all is_made (statuses_of work over.compiled)) tested.tests over.tests says);
       }
 
   pub tested_faulted : (why other : RunFault) → Over (Err why) → RanTested answer work options read (Err other) events
   tested_faulted why other over = record {
     ran = ran_over (Err why) over (OnOk (fails other)) tt tt tt;
-    marks = tt;
+    statuses = tt;
     tests = tt;
   }
 

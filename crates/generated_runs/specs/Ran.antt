@@ -8,19 +8,19 @@ use Rattle.base.specs.declared.child.Event.TheVariants.{Started}
 use Rattle.base.specs.Graphs.{IsGraph}
 use Rattle.outside.specs.Records.{Record}
 use Rattle.outside.specs.Disks.{DiskState, reads_of}
-use Rattle.run_spec.specs.declared.marks.Mark.{Mark}
-use Rattle.run_spec.specs.ChildJournal.{Work, Lawful, Answered, IsWhole, book_of, next_position}
+use Rattle.run_spec.specs.declared.statuses.FileStatus.{FileStatus}
+use Rattle.run_spec.specs.ChildJournal.{Work, Lawful, Answered, IsWhole, progress_of, next_position}
 use Rattle.run_spec.specs.CleanBuild.{clean_request}
 use Rattle.run_spec.specs.Settled.{request_unless}
 use Rattle.run_spec.specs.Commits.{commits}
 use Rattle.run_spec.specs.JournalParts.{compile_part, test_part}
-use Rattle.run_spec.specs.Marks.{is_refused, marks_of, steady_marks}
-use Rattle.run_steps.specs.declared.fault.RunFault.{RunFault}
-use Rattle.build_loop.specs.Ran.{is_made}
-use Rattle.test_journal.specs.TestJournal.{TestSetting, LawfulTests, IsWholeTests}
-use Rattle.run_tested.specs.declared.testing.Tested.{Tested}
-use Rattle.run_tested_laws.specs.Rights.{AreRightTests}
-use Rattle.store_requests.specs.Stored.{requests_in}
+use Rattle.run_spec.specs.Statuses.{is_refused, statuses_of, steady_statuses}
+use Rattle.run_spec.specs.declared.fault.RunFault.{RunFault}
+use Rattle.run_build.specs.Ran.{is_made}
+use Rattle.run_spec.specs.TestJournal.{TestSetting, LawfulTests, IsWholeTests}
+use Rattle.run_tests.specs.declared.build_and_test.Tested.{Tested}
+use Rattle.run_tests.specs.Rights.{AreRightTests}
+use Rattle.store.specs.Stored.{requests_in}
 use Rattle.project_reading.specs.Reading.{SourceReading, Found}
 use Rattle.project_reading.specs.declared.linking.ReadProject.{ReadProject}
 use Rattle.generated_runs.specs.declared.options.GenerateOptions.{GenerateOptions}
@@ -43,12 +43,12 @@ pub record RanBuild (answer : Request → Exit) (work : Work) (whole : Type 0 �
 
 -- What follows of a build where what is recorded is what a clean build makes: each compiler is asked for its file what a clean
 -- build asks it. Where there is no fault, and no file is refused, the started files are exactly those for which the settled
--- build has a request, and the marks are those that it says.
+-- build has a request, and the statuses are those that it says.
 pub record IsRightBuild (answer : Request → Exit) (work : Work) (whole : Type 0 → Type 0) (events : List Event) : Type 0 where
   pub asked : (before rest : List Event) (ticket : ℕ) (request : Request) → events ≡ before ++ Started ticket request ∷ rest →
-      (position : ℕ) × (next_position work (book_of work before) ≡ Some position) × (clean_request answer work.graph position ≡ Some request)
-  pub started : whole (list_any is_refused (marks_of work events) ≡ false → (position : ℕ) → Contains (book_of work events).taken position ↔ ((request : Request) × (request_unless answer work.graph work.current position ≡ Some request)))
-  pub steady : whole (list_any is_refused (marks_of work events) ≡ false → marks_of work events ≡ steady_marks answer work.graph work.current)
+      (position : ℕ) × (next_position work (progress_of work before) ≡ Some position) × (clean_request answer work.graph position ≡ Some request)
+  pub started : whole (list_any is_refused (statuses_of work events) ≡ false → (position : ℕ) → Contains (progress_of work events).taken position ↔ ((request : Request) × (request_unless answer work.graph work.current position ≡ Some request)))
+  pub steady : whole (list_any is_refused (statuses_of work events) ≡ false → statuses_of work events ≡ steady_statuses answer work.graph work.current)
 
 -- What follows of a build and its tests where what is recorded is what a clean build makes: the build is right, and each test
 -- is started over exactly the libraries of a clean build.
@@ -56,12 +56,12 @@ pub record IsRightSecond (answer : Request → Exit) (options : GenerateOptions)
   pub build : IsRightBuild answer work whole (compile_part events)
   pub tests : AreRightTests answer (second_order options read.graph) (plan_of read) (test_part events)
 
--- What the first build did over a disk: where there is no fault its marks are those of what happened, and reads of the disk
+-- What the first build did over a disk: where there is no fault its statuses are those of what happened, and reads of the disk
 -- then give the records of its ends.
-pub record RanFirst (answer : Request → Exit) (work : Work) (result : Result (List Mark) RunFault) (disk : DiskState) (events : List Event) : Type 0 where
+pub record RanFirst (answer : Request → Exit) (work : Work) (result : Result (List FileStatus) RunFault) (disk : DiskState) (events : List Event) : Type 0 where
   pub built : RanBuild answer work (OnOk result) events
   pub compilers : (compile_part events ≡ events) × (test_part events ≡ [])
-  pub marks : IfOk result (λ marks. marks ≡ marks_of work events)
+  pub statuses : IfOk result (λ statuses. statuses ≡ statuses_of work events)
   pub records : OnOk result (records_on disk ≡ commits work events)
 
 -- What a build and its tests did. First come the events of its compilers, and then those of the tests, which are lawful runs
@@ -71,16 +71,16 @@ pub record RanSecond (answer : Request → Exit) (work : Work) (setting : List E
   pub parted : events ≡ compile_part events ++ test_part events
   pub graph : (test_part events ≡ [] → ⊥) → IsGraph work.graph
   pub built : RanBuild answer work whole (compile_part events)
-  pub made : (test_part events ≡ [] → ⊥) → list_all is_made (marks_of work (compile_part events)) ≡ true
+  pub made : (test_part events ≡ [] → ⊥) → list_all is_made (statuses_of work (compile_part events)) ≡ true
   pub tested : LawfulTests (setting (compile_part events)) (test_part events)
   pub replied : Answered answer (test_part events)
-  pub all_tested : whole (list_all is_made (marks_of work (compile_part events)) ≡ true → IsWholeTests (setting (compile_part events)) (test_part events))
+  pub all_tested : whole (list_all is_made (statuses_of work (compile_part events)) ≡ true → IsWholeTests (setting (compile_part events)) (test_part events))
 
--- What a build and its tests did, as `RanSecond` has it; and where there is no fault, the marks and the ends of tests that are
+-- What a build and its tests did, as `RanSecond` has it; and where there is no fault, the statuses and the ends of tests that are
 -- answered are those of what happened.
 pub record RanTested (answer : Request → Exit) (work : Work) (options : GenerateOptions) (read : ReadProject) (result : Result Tested RunFault) (events : List Event) : Type 0 where
   pub ran : RanSecond answer work (setting_of options read work) (OnOk result) events
-  pub marks : IfOk result (λ tested. tested.marks ≡ marks_of work (compile_part events))
+  pub statuses : IfOk result (λ tested. tested.statuses ≡ statuses_of work (compile_part events))
   pub tests : IfOk result (λ tested. tested.tests ≡ tests_of options read work events)
 
 -- What was done from the edited sources on, over these records, after a first build that compiled so many files.
@@ -99,11 +99,11 @@ pub record RanGenerated (answer : Request → Exit) (options : GenerateOptions) 
   pub unread : ((read : ReadProject) → reading ≡ Found read → ⊥) → (first ≡ []) × (second ≡ [])
   pub built : (read : ReadProject) → reading ≡ Found read → RanBuild answer (first_work options read.graph) (OnOk result) first
   pub compilers : (compile_part first ≡ first) × (test_part first ≡ [])
-  pub halted : (read : ReadProject) → reading ≡ Found read → list_all is_made (marks_of (first_work options read.graph) first) ≡ false → second ≡ []
-  pub ran : (read again : ReadProject) → reading ≡ Found read → edited ≡ Found again → list_all is_made (marks_of (first_work options read.graph) first) ≡ true →
+  pub halted : (read : ReadProject) → reading ≡ Found read → list_all is_made (statuses_of (first_work options read.graph) first) ≡ false → second ≡ []
+  pub ran : (read again : ReadProject) → reading ≡ Found read → edited ≡ Found again → list_all is_made (statuses_of (first_work options read.graph) first) ≡ true →
       let work = second_work options (first_records options read.graph first) again.graph in
       RanSecond answer work (setting_of options again work) (OnOk result) second
   pub right : (read : ReadProject) → reading ≡ Found read → IsRightBuild answer (first_work options read.graph) (OnOk result) first
-  pub right_again : (read again : ReadProject) → reading ≡ Found read → edited ≡ Found again → list_all is_made (marks_of (first_work options read.graph) first) ≡ true →
+  pub right_again : (read again : ReadProject) → reading ≡ Found read → edited ≡ Found again → list_all is_made (statuses_of (first_work options read.graph) first) ≡ true →
       IsRightSecond answer options (second_work options (first_records options read.graph first) again.graph) again (OnOk result) second
   pub says : IfOk result (λ said. said ≡ generated_said options reading edited first second)

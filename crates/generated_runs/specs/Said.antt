@@ -7,16 +7,16 @@ use Rattle.base_outcomes.specs.declared.outcome.Outcome.{Outcome}
 use Rattle.base_outcomes.specs.declared.outcome.Outcome.TheVariants as outcome
 use Rattle.base_outcomes.specs.declared.outcome.Limit.{Limit}
 use Rattle.base_outcomes.specs.declared.outcome.Refusal.{Refusal}
-use Rattle.run_spec.specs.declared.marks.Mark.{Mark}
+use Rattle.run_spec.specs.declared.statuses.FileStatus.{FileStatus}
 use Rattle.run_spec.specs.ChildJournal.{Work}
 use Rattle.run_spec.specs.JournalParts.{compile_part, test_part}
-use Rattle.run_spec.specs.Marks.{is_compiled, marks_of}
-use Rattle.report_run.specs.Outcomes.{build_outcome}
-use Rattle.report_run.specs.Texts.{shown_bytes, build_text, refusal_text, limit_text, warning_text}
-use Rattle.build_loop.specs.Ran.{is_made}
-use Rattle.test_spec.specs.declared.ends.TestEnd.{TestEnd}
-use Rattle.test_loop.specs.Results.{test_ends}
-use Rattle.report_verdicts.specs.Counts.{all_verdicts, tally, tests_outcome}
+use Rattle.run_spec.specs.Statuses.{is_compiled, statuses_of}
+use Rattle.report.specs.Outcomes.{build_outcome}
+use Rattle.report.specs.Texts.{shown_bytes, build_text, refusal_text, limit_text, warning_text}
+use Rattle.run_build.specs.Ran.{is_made}
+use Rattle.testbench_runs.specs.declared.ends.TestEnd.{TestEnd}
+use Rattle.run_tests.specs.Results.{test_ends}
+use Rattle.report.specs.Counts.{all_verdicts, tally, tests_outcome}
 use Rattle.project_reading.specs.Reading.{SourceReading, Stops, Over, Found}
 use Rattle.project_reading.specs.declared.linking.ReadProject.{ReadProject}
 use Rattle.generated_project.specs.Files.{files_in}
@@ -39,9 +39,9 @@ refusal_said reason = record { outcome = outcome.Refused reason; text = refusal_
 abbrev pub limit_said : Limit → (number : ℕ) → GeneratedSaid
 limit_said limit number = record { outcome = outcome.OverLimit limit; text = limit_text limit number }
 
--- what is said of a build with these marks: its text after that of warnings, and its answer
-abbrev pub marks_said : ReadProject → List Mark → GeneratedSaid
-marks_said read marks = record { outcome = build_outcome read.graph marks; text = warning_text read.project.files read.warnings ++ build_text shown_bytes read.graph marks }
+-- what is said of a build with these statuses: its text after that of warnings, and its answer
+abbrev pub statuses_said : ReadProject → List FileStatus → GeneratedSaid
+statuses_said read statuses = record { outcome = build_outcome read.graph statuses; text = warning_text read.project.files read.warnings ++ build_text shown_bytes read.graph statuses }
 
 -- what is said of both builds and of the tests: how many files each build compiled, and how many cases have passed
 abbrev pub counted_said : GenerateOptions → (first second : ℕ) → TestEnd → GeneratedSaid
@@ -50,20 +50,20 @@ counted_said options first second end =
     record { outcome = tests_outcome end.runs options.exit_0; text = count_lines (record { files = files_in options.packages; first = first; second = second; passed = cases.passed; total = cases.total }) }
 
 -- what is said of the second build and of its tests, if there were any
-abbrev pub tested_said : GenerateOptions → (first : ℕ) → ReadProject → List Mark → Option TestEnd → GeneratedSaid
-tested_said options first read marks None = marks_said read marks
-tested_said options first read marks (Some end) = counted_said options first (count_by is_compiled marks) end
+abbrev pub tested_said : GenerateOptions → (first : ℕ) → ReadProject → List FileStatus → Option TestEnd → GeneratedSaid
+tested_said options first read statuses None = statuses_said read statuses
+tested_said options first read statuses (Some end) = counted_said options first (count_by is_compiled statuses) end
 
 -- what became of the tests: nothing, where a file isn't made
 abbrev pub tests_of : GenerateOptions → ReadProject → Work → List Event → Option TestEnd
 tests_of options read work events =
-    if list_all is_made (marks_of work (compile_part events)) then Some (record { runs = test_ends (setting_of options read work (compile_part events)) (test_part events) }) else None
+    if list_all is_made (statuses_of work (compile_part events)) then Some (record { runs = test_ends (setting_of options read work (compile_part events)) (test_part events) }) else None
 
 -- what is said of the second build of a project over records, and of its tests, by what happened
 abbrev pub built_said : GenerateOptions → (first : ℕ) → List Record → ReadProject → List Event → GeneratedSaid
 built_said options first records read events =
     let work = second_work options records read.graph in
-    tested_said options first read (marks_of work (compile_part events)) (tests_of options read work events)
+    tested_said options first read (statuses_of work (compile_part events)) (tests_of options read work events)
 
 -- what is said after the first build, by what the edited sources say
 abbrev pub second_said : GenerateOptions → (first : ℕ) → List Record → SourceReading → List Event → GeneratedSaid
@@ -74,8 +74,8 @@ second_said options first records (Found read) events = built_said options first
 -- what is said of the first build, and where all of its files are made of what follows
 abbrev pub both_said : GenerateOptions → SourceReading → ReadProject → (first second : List Event) → GeneratedSaid
 both_said options edited read first second =
-    let marks = marks_of (first_work options read.graph) first in
-    if list_all is_made marks then second_said options (count_by is_compiled marks) (first_records options read.graph first) edited second else marks_said read marks
+    let statuses = statuses_of (first_work options read.graph) first in
+    if list_all is_made statuses then second_said options (count_by is_compiled statuses) (first_records options read.graph first) edited second else statuses_said read statuses
 
 -- what is said of all, by what the sources say before their edit and after it, and by what happened in each part
 abbrev pub generated_said : GenerateOptions → (reading edited : SourceReading) → (first second : List Event) → GeneratedSaid

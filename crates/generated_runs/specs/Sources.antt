@@ -9,19 +9,19 @@ use Rattle.outside.specs.Records.{latest}
 use Rattle.memory_outside.specs.Trees.{file_at, listed_of}
 use Rattle.run_spec.specs.ChildJournal.{Work}
 use Rattle.run_spec.specs.Commits.{work_of, commits}
-use Rattle.test_spec.specs.declared.runs.TestRun.{TestRun}
-use Rattle.test_spec.specs.Runs.{test_runs}
-use Rattle.test_journal.specs.TestJournal.{TestPlan, TestSetting}
-use Rattle.build_loop.specs.Ran.{built_by}
+use Rattle.testbench_runs.specs.declared.runs.TestRun.{TestRun}
+use Rattle.testbench_runs.specs.Runs.{test_runs}
+use Rattle.run_spec.specs.TestJournal.{TestPlan, TestSetting}
+use Rattle.run_build.specs.Ran.{built_by}
 use Rattle.run_build.specs.Orders.{order_by}
-use Rattle.run_histories.specs.Histories.{Order}
+use Rattle.run_spec.specs.Histories.{Order}
 use Rattle.vhdl_spec.specs.Scans.{Finding}
 use Rattle.project_reading.specs.Reading.{SourceReading, project_reading}
-use Rattle.project_reading.specs.Wishes.{chosen}
+use Rattle.project_reading.specs.Queries.{chosen}
 use Rattle.project_reading.specs.declared.linking.ReadProject.{ReadProject}
-use Rattle.project_reading.specs.declared.wish.Wish.{Wish}
-use Rattle.project_reading.specs.declared.wish.Extent.{Extent}
-use Rattle.project_reading.specs.declared.wish.Extent.TheVariants.{Graph, Tests}
+use Rattle.project_reading.specs.declared.query.Query.{Query}
+use Rattle.project_reading.specs.declared.query.QueryKind.{QueryKind}
+use Rattle.project_reading.specs.declared.query.QueryKind.TheVariants.{Graph, Tests}
 use Rattle.generated_project.specs.Files.{generated_files, edited_package, unedited}
 use Rattle.generated_runs.specs.declared.options.GenerateOptions.{GenerateOptions}
 
@@ -30,20 +30,20 @@ unfoldable pub any_name : List ℕ
 any_name = codes "*"
 
 -- so much is wanted, of all tests
-abbrev pub wish_for : Extent → Wish
-wish_for extent = record { extent = extent; patterns = any_name ∷ [] }
+abbrev pub query_for : QueryKind → Query
+query_for query_kind = record { query_kind = query_kind; patterns = any_name ∷ [] }
 
 -- the reading of a tree of these files
-abbrev pub files_reading : (List ℕ → Finding) → List NamedText → Wish → SourceReading
-files_reading scan files wish = project_reading scan (file_at files) (listed_of files) wish
+abbrev pub files_reading : (List ℕ → Finding) → List NamedText → Query → SourceReading
+files_reading scan files query = project_reading scan (file_at files) (listed_of files) query
 
 -- the reading of the generated project before its edit: its files alone
 abbrev pub first_reading : (List ℕ → Finding) → GenerateOptions → SourceReading
-first_reading scan options = files_reading scan (generated_files options.packages unedited) (wish_for Graph)
+first_reading scan options = files_reading scan (generated_files options.packages unedited) (query_for Graph)
 
 -- the reading of the generated project after its edit, with its tests
 abbrev pub second_reading : (List ℕ → Finding) → GenerateOptions → SourceReading
-second_reading scan options = files_reading scan (generated_files options.packages (edited_package options.packages)) (wish_for Tests)
+second_reading scan options = files_reading scan (generated_files options.packages (edited_package options.packages)) (query_for Tests)
 
 -- no file has a record, so the first build compiles all
 abbrev pub no_record : FileName → Option Record

@@ -4,8 +4,8 @@ ghost use Rattle.std.specs.Prelude.{◌≡◌, ◌≤◌, ◌++◌, [], ℕ, Som
 ghost use Rattle.outside.specs.FaultCounts.{BuildFaultCounts, NoBuildCountFell, child_counts};
 ghost use Rattle.memory_outside.specs.Disks.{moments_of};
 ghost use Rattle.run_spec.specs.ChildJournal.{since};
-ghost use Rattle.run_steps.specs.Faults.{Explains, fault_of};
-ghost use Rattle.run_steps.specs.declared.fault.RunFault.TheVariants as fault;
+ghost use Rattle.run_spec.specs.Faults.{Explains, fault_of};
+ghost use Rattle.run_spec.specs.declared.fault.RunFault.TheVariants as fault;
 ghost use Rattle.generated_runs.specs.Sources.{first_work};
 ghost use Rattle.generated_runs.specs.Ran.{RanFirst};
 
@@ -14,10 +14,9 @@ use base::{Graph, SLOT_LIMIT};
 use memory_outside::MemDisk;
 use outside::Procs;
 use run_build::{BuildOptions, build_over};
-use run_spec::MarkList;
-use run_steps::RunFault;
+use run_spec::{FileStatusList, RunFault};
 use std::alloc::Global;
-use store_requests::RequestStore;
+use store::RequestStore;
 
 /// Why a build over a disk in memory ended, which fails for want of memory alone.
 pub fn own_fault(fault: RunFault) -> RunFault
@@ -41,12 +40,12 @@ pub fn build_first<P: Procs>(
     options: GenerateOptions,
     disk: &mut MemDisk,
     procs: &mut P,
-) -> Result<MarkList, RunFault>
+) -> Result<FileStatusList, RunFault>
     requires slots { (1 ≤ options.slots) × (options.slots ≤ SLOT_LIMIT) }
     requires idle { P.running procs.old ≡ [] }
     ensures running { P.running procs.new ≡ [] }
     ensures same { P.answer procs.new ≡ P.answer procs.old }
-    ensures count { IfOk result (λ marks. length marks ≡ length graph.now) }
+    ensures count { IfOk result (λ statuses. length statuses ≡ length graph.now) }
     ensures follows { P.tells →
         (P.journal procs.new
         ≡ P.journal procs.old ++ since (P.journal procs.old) (P.journal procs.new)) }
@@ -66,7 +65,7 @@ pub fn build_first<P: Procs>(
         clean: true,
     };
     match build_over::<RequestStore<'_>, MemDisk, P>(alloc, graph, orders, disk, procs) {
-        Ok(marks) => Ok(marks),
+        Ok(statuses) => Ok(statuses),
         Err(fault) => Err(own_fault(fault)),
     }
 }

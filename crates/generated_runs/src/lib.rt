@@ -6,8 +6,8 @@ mod building;
 mod options;
 mod running;
 mod saying;
+mod second_build;
 mod sources;
-mod testing;
 
 pub use options::{GenerateOptions, GeneratedSaid};
 pub use running::run_generated;

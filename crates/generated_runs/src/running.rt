@@ -6,29 +6,29 @@ ghost use Rattle.outside.specs.Records.{Record};
 ghost use Rattle.outside.specs.FaultCounts.{NoBuildCountFell, child_counts};
 ghost use Rattle.memory_outside.specs.Disks.{moments_of};
 ghost use Rattle.run_spec.specs.ChildJournal.{since};
-ghost use Rattle.run_steps.specs.Faults.{Explains, fault_of};
+ghost use Rattle.run_spec.specs.Faults.{Explains, fault_of};
 ghost use Rattle.vhdl_spec.specs.Scans.{Finding, IsScanner};
-ghost use Rattle.test_spec.specs.Runs.{FitsRun};
+ghost use Rattle.testbench_runs.specs.Runs.{FitsRun};
 ghost use Rattle.project_reading.specs.Reading.{Found};
 ghost use Rattle.project_reading.specs.Sources.{IsReadProject};
-ghost use Rattle.project_reading.specs.declared.wish.Extent.TheVariants.{Tests};
-ghost use Rattle.generated_runs.specs.Sources.{first_reading, second_reading, runs_in, wish_for};
+ghost use Rattle.project_reading.specs.declared.query.QueryKind.TheVariants.{Tests};
+ghost use Rattle.generated_runs.specs.Sources.{first_reading, second_reading, runs_in, query_for};
 ghost use Rattle.generated_runs.specs.Said.{IsAnswer};
 ghost use Rattle.generated_runs.specs.Ran.{RanEdited, RanGenerated, records_on};
 
 use crate::building::build_first;
 use crate::options::{GenerateOptions, GeneratedSaid};
-use crate::saying::{are_made, compiled, marks_said, stop_said, tested_said};
+use crate::saying::{are_made, compiled_count, statuses_said, stop_said, tested_said};
+use crate::second_build::{all_runs, test_second};
 use crate::sources::read_generated;
-use crate::testing::{all_runs, test_second};
 use base::{CASE_LIMIT, Numbers, SLOT_LIMIT};
 use generated_project::edited_package;
 use memory_outside::MemDisk;
 use outside::Procs;
-use project_reading::{Extent, ReadProject};
-use run_steps::RunFault;
+use project_reading::{QueryKind, ReadProject};
+use run_spec::RunFault;
 use std::alloc::Global;
-use test_spec::TestRunList;
+use testbench_runs::TestRunList;
 
 /// The package that no edit changes.
 const UNEDITED: u64 = 0;
@@ -85,7 +85,7 @@ fn test_read<P: Procs>(
 ) -> Result<GeneratedSaid, RunFault>
     requires slots { (1 ≤ options.slots) × (options.slots ≤ SLOT_LIMIT) }
     requires idle { P.running procs.old ≡ [] }
-    requires read { IsReadProject (wish_for Tests) read.now }
+    requires read { IsReadProject (query_for Tests) read.now }
     ensures running { P.running procs.new ≡ [] }
     ensures same { P.answer procs.new ≡ P.answer procs.old }
     ensures follows { P.tells →
@@ -137,7 +137,7 @@ fn run_edited<P: Procs>(
         (record { children = child_counts P.Procs procs.new; disks = disks }) }
 {
     let edited = edited_package(options.packages);
-    match read_generated(alloc, options.packages, edited, Extent::Tests) {
+    match read_generated(alloc, options.packages, edited, QueryKind::Tests) {
         Ok(read) => test_read(alloc, &read, options, first, disk, procs),
         Err(stop) => match stop_said(alloc, stop) {
             Ok(said) => Ok(said),
@@ -173,12 +173,12 @@ fn run_read<P: Procs>(
         (record { children = child_counts P.Procs procs.new; disks = disks }) }
 {
     match build_first(alloc, &read.graph, options, disk, procs) {
-        Ok(marks) => {
-            if are_made(marks.as_slice()) {
-                let first = compiled(marks.as_slice());
+        Ok(statuses) => {
+            if are_made(statuses.as_slice()) {
+                let first = compiled_count(statuses.as_slice());
                 return run_edited(alloc, options, first, disk, procs);
             }
-            match marks_said(alloc, read, &marks) {
+            match statuses_said(alloc, read, &statuses) {
                 Ok(said) => Ok(said),
                 Err(_) => Err(RunFault::NoMemory),
             }
@@ -217,7 +217,7 @@ pub fn run_generated<P: Procs>(
         (record { children = child_counts P.Procs procs.old; disks = disks })
         (record { children = child_counts P.Procs procs.new; disks = disks }) }
 {
-    match read_generated(alloc, options.packages, UNEDITED, Extent::Graph) {
+    match read_generated(alloc, options.packages, UNEDITED, QueryKind::Graph) {
         Ok(read) => {
             let mut disk = MemDisk::new(alloc, Numbers::new(alloc));
             run_read(alloc, &read, options, &mut disk, procs)

@@ -4,58 +4,59 @@ ghost use Rattle.std.specs.Prelude.{◌≡◌, ◌≤◌, ◌<◌, ◌^◌, ◌+
 ghost use Rattle.std.specs.List.{list_all};
 ghost use Rattle.base.specs.declared.child.Event.{Event};
 ghost use Rattle.outside.specs.Records.{Record};
-ghost use Rattle.run_spec.specs.Marks.{is_compiled};
-ghost use Rattle.report_run.specs.Texts.{shown_bytes, build_text, warning_text};
-ghost use Rattle.build_loop.specs.Ran.{is_made};
+ghost use Rattle.run_spec.specs.Statuses.{is_compiled};
+ghost use Rattle.report.specs.Texts.{shown_bytes, build_text, warning_text};
+ghost use Rattle.run_build.specs.Ran.{is_made};
 ghost use Rattle.project_reading.specs.Reading.{SourceReading, Found};
 ghost use Rattle.project_reading.specs.Sources.{LeadsTo};
 ghost use Rattle.project_reading.specs.declared.stops.ReadStop.TheVariants as why;
-ghost use Rattle.generated_runs.specs.Said.{IsAnswer, refusal_said, limit_said, marks_said, counted_said, tested_said, second_said, generated_said};
+ghost use Rattle.generated_runs.specs.Said.{IsAnswer, refusal_said, limit_said, statuses_said, counted_said, tested_said, second_said, generated_said};
 
 use crate::options::{GenerateOptions, GeneratedSaid};
 use base::{NoMemory, Text};
 use base_outcomes::{Limit, Outcome, Refusal};
 use generated_project::{Counts, count_lines};
 use project_reading::{ReadProject, ReadStop};
-use report_run::{build_outcome, build_text, limit_text, refusal_text, warning_text};
-use report_verdicts::{tally_of, tests_outcome};
-use run_spec::{Mark, MarkList};
-use run_tested::Tested;
+use report::{
+    build_outcome, build_text, limit_text, refusal_text, tally_of, tests_outcome, warning_text,
+};
+use run_spec::{FileStatus, FileStatusList};
+use run_tests::Tested;
 use std::alloc::Global;
-use test_spec::TestEnd;
+use testbench_runs::TestEnd;
 
-fn is_compiled(mark: &Mark) -> bool
-    ensures { result ≡ is_compiled mark.now }
+fn is_compiled(status: &FileStatus) -> bool
+    ensures { result ≡ is_compiled status.now }
 {
-    matches!(mark, Mark::Compiled)
+    matches!(status, FileStatus::Compiled)
 }
 
-fn is_made(mark: &Mark) -> bool
-    ensures { result ≡ is_made mark.now }
+fn is_made(status: &FileStatus) -> bool
+    ensures { result ≡ is_made status.now }
 {
-    match mark {
-        Mark::Fresh => true,
-        Mark::Compiled => true,
-        Mark::Refused { code: _, output: _ } => false,
-        Mark::Skipped => false,
-        Mark::Left => false,
+    match status {
+        FileStatus::Fresh => true,
+        FileStatus::Compiled => true,
+        FileStatus::Refused { code: _, output: _ } => false,
+        FileStatus::Skipped => false,
+        FileStatus::Left => false,
     }
 }
 
 /// Whether all files of a build are made.
-pub fn are_made(marks: &[Mark]) -> bool
-    ensures { result ≡ list_all is_made marks.now }
+pub fn are_made(statuses: &[FileStatus]) -> bool
+    ensures { result ≡ list_all is_made statuses.now }
 {
-    marks.iter().all(|mark| is_made(mark))
+    statuses.iter().all(|status| is_made(status))
 }
 
 /// How many files a build compiled.
-pub fn compiled(marks: &[Mark]) -> u64
-    ensures { result ≡ count_by is_compiled marks.now }
+pub fn compiled_count(statuses: &[FileStatus]) -> u64
+    ensures { result ≡ count_by is_compiled statuses.now }
 {
     let mut count = 0;
-    for mark in marks {
-        if is_compiled(mark) {
+    for status in statuses {
+        if is_compiled(status) {
             count += 1;
         }
     }
@@ -104,30 +105,34 @@ pub fn stop_said(alloc: Global, stop: ReadStop) -> Result<GeneratedSaid, NoMemor
     }
 }
 
-/// The text of a build with these marks, after that of warnings.
-fn marks_text(alloc: Global, read: &ReadProject, marks: &MarkList) -> Result<Text, NoMemory>
-    requires { length marks.now ≡ length read.now.graph }
+/// The text of a build with these statuses, after that of warnings.
+fn statuses_text(
+    alloc: Global,
+    read: &ReadProject,
+    statuses: &FileStatusList,
+) -> Result<Text, NoMemory>
+    requires { length statuses.now ≡ length read.now.graph }
     ensures { IfOk result (λ text.
         text ≡ warning_text read.now.project.files read.now.warnings
-        ++ build_text shown_bytes read.now.graph marks.now) }
+        ++ build_text shown_bytes read.now.graph statuses.now) }
 {
     let mut text = warning_text(alloc, &read.project, &read.warnings)?.into_vec();
-    text.extend_from_slice(build_text(alloc, &read.graph, marks)?.bytes())?;
+    text.extend_from_slice(build_text(alloc, &read.graph, statuses)?.bytes())?;
     Ok(Text::from_vec(text))
 }
 
-/// What is said of a build with these marks.
-pub fn marks_said(
+/// What is said of a build with these statuses.
+pub fn statuses_said(
     alloc: Global,
     read: &ReadProject,
-    marks: &MarkList,
+    statuses: &FileStatusList,
 ) -> Result<GeneratedSaid, NoMemory>
-    requires { length marks.now ≡ length read.now.graph }
-    ensures said { IfOk result (λ said. said ≡ marks_said read.now marks.now) }
+    requires { length statuses.now ≡ length read.now.graph }
+    ensures said { IfOk result (λ said. said ≡ statuses_said read.now statuses.now) }
     ensures plain { IfOk result (λ said. IsAnswer said.outcome) }
 {
-    let text = marks_text(alloc, read, marks)?;
-    let outcome = build_outcome(alloc, &read.graph, marks)?;
+    let text = statuses_text(alloc, read, statuses)?;
+    let outcome = build_outcome(alloc, &read.graph, statuses)?;
     Ok(GeneratedSaid { outcome, text })
 }
 
@@ -163,18 +168,18 @@ pub fn tested_said(
     read: &ReadProject,
     tested: &Tested,
 ) -> Result<GeneratedSaid, NoMemory>
-    requires { length tested.now.marks ≡ length read.now.graph }
+    requires { length tested.now.statuses ≡ length read.now.graph }
     ensures said { IfOk result (λ said.
-        said ≡ tested_said options first read.now tested.now.marks tested.now.tests) }
+        said ≡ tested_said options first read.now tested.now.statuses tested.now.tests) }
     ensures plain { IfOk result (λ said. IsAnswer said.outcome) }
 {
     match &tested.tests {
-        None => marks_said(alloc, read, &tested.marks),
+        None => statuses_said(alloc, read, &tested.statuses),
         Some(end) => counted_said(
             alloc,
             options,
             first,
-            compiled(tested.marks.as_slice()),
+            compiled_count(tested.statuses.as_slice()),
             end,
         ),
     }

@@ -6,11 +6,11 @@ ghost use Rattle.generated_project.specs.Files.{generated_files};
 ghost use Rattle.project_reading.specs.Reading.{SourceReading};
 ghost use Rattle.project_reading.specs.Sources.{IsReadProject, LeadsTo};
 ghost use Rattle.project_reading.specs.declared.stops.ReadStop.TheVariants as why;
-ghost use Rattle.generated_runs.specs.Sources.{any_name, files_reading, wish_for};
+ghost use Rattle.generated_runs.specs.Sources.{any_name, files_reading, query_for};
 
 use base::{NoMemory, Text, TextList};
 use generated_project::GeneratedTree;
-use project_reading::{Extent, ReadProject, ReadStop, Wish, read_project};
+use project_reading::{Query, QueryKind, ReadProject, ReadStop, read_project};
 use std::alloc::Global;
 
 /// Why nothing is compiled, where a tree in memory fails for want of memory alone.
@@ -29,30 +29,33 @@ fn own_stop(stop: ReadStop) -> ReadStop
 
 /// So much is wanted, of all tests.
 #[tactic(auto, unfolding(crate::specs::Sources::any_name))]
-pub fn wish_for(alloc: Global, extent: Extent) -> Result<Wish, NoMemory>
-    ensures { IfOk result (λ wish. wish ≡ wish_for extent) }
+pub fn query_for(alloc: Global, query_kind: QueryKind) -> Result<Query, NoMemory>
+    ensures { IfOk result (λ query. query ≡ query_for query_kind) }
 {
     let mut patterns = TextList::new(alloc);
     patterns.push(Text::from_slice(alloc, b"*")?)?;
-    Ok(Wish { extent, patterns })
+    Ok(Query {
+        query_kind,
+        patterns,
+    })
 }
 
 /// What is read of the generated project.
-fn read_wished(
+fn read_queried(
     alloc: Global,
     packages: u32,
     edited: u64,
-    wish: &Wish,
+    query: &Query,
 ) -> Result<ReadProject, ReadStop>
     ensures reading { (scan : List ℕ → Finding) → IsScanner scan →
-        LeadsTo (files_reading scan (generated_files packages edited) wish.now) result }
-    ensures form { IfOk result (IsReadProject wish.now) }
+        LeadsTo (files_reading scan (generated_files packages edited) query.now) result }
+    ensures form { IfOk result (IsReadProject query.now) }
     ensures plain { result ≡ Err why.Failed → ⊥ }
 {
     let Ok(mut tree) = GeneratedTree::new(alloc, packages, edited) else {
         return Err(ReadStop::NoMemory);
     };
-    match read_project(alloc, &mut tree, wish) {
+    match read_project(alloc, &mut tree, query) {
         Ok(read) => Ok(read),
         Err(stop) => Err(own_stop(stop)),
     }
@@ -63,15 +66,15 @@ pub fn read_generated(
     alloc: Global,
     packages: u32,
     edited: u64,
-    extent: Extent,
+    query_kind: QueryKind,
 ) -> Result<ReadProject, ReadStop>
     ensures reading { (scan : List ℕ → Finding) → IsScanner scan →
-        LeadsTo (files_reading scan (generated_files packages edited) (wish_for extent)) result }
-    ensures form { IfOk result (IsReadProject (wish_for extent)) }
+        LeadsTo (files_reading scan (generated_files packages edited) (query_for query_kind)) result }
+    ensures form { IfOk result (IsReadProject (query_for query_kind)) }
     ensures plain { result ≡ Err why.Failed → ⊥ }
 {
-    match wish_for(alloc, extent) {
-        Ok(wish) => read_wished(alloc, packages, edited, &wish),
+    match query_for(alloc, query_kind) {
+        Ok(query) => read_queried(alloc, packages, edited, &query),
         Err(_) => Err(ReadStop::NoMemory),
     }
 }

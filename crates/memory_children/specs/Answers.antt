@@ -10,7 +10,7 @@ use Rattle.vhdl_spec.specs.Scans.{Finding}
 use Rattle.system_children.specs.Codes.{cut_code}
 use Rattle.child_lines.specs.Ends.{ends_with}
 use Rattle.child_tools.specs.Answers.{analysis}
-use Rattle.child_benches.specs.Benches.{simulation}
+use Rattle.child_tools.specs.Benches.{simulation}
 
 -- ## What a child says
 

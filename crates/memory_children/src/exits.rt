@@ -9,9 +9,8 @@ ghost use Rattle.system_children.specs.Codes.{cut_code};
 ghost use Rattle.memory_children.specs.Answers.{child_end, is_cut, loop_answer, second_word, short_text, taken_exit, taken_results};
 
 use base::{ARTEFACT_LIMIT, Exit, MaybeText, NoMemory, RESULTS_LIMIT, Request, Text};
-use child_benches::bench;
 use child_lines::ends_with;
-use child_tools::analyse;
+use child_tools::{analyse, bench};
 use std::alloc::Global;
 
 /// The code of a command that isn't there.

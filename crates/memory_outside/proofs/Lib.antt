@@ -1,6 +1,6 @@
 -- The lemmas.
 mod ListingLemmas
-mod BookLemmas
+mod ChildLogLemmas
 mod TableLemmas
 mod LogLemmas
 mod ReadsLemmas

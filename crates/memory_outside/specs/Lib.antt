@@ -4,7 +4,8 @@ pub mod Failing
 pub mod Streams
 pub mod Trees
 pub mod TreeLaws
-pub mod Books
+pub mod ChildLogs
 pub mod Scripts
 pub mod Disks
 pub mod DiskLaws
+pub mod HeldReports

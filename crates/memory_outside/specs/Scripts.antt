@@ -8,12 +8,12 @@ use Rattle.base.specs.declared.child.MaybeText.{MaybeText}
 use Rattle.base.specs.declared.child.MaybeText.TheVariants.{Nothing, Given}
 use Rattle.outside.specs.Children.{FitsExit, AnswersPath}
 use Rattle.memory_outside.specs.declared.answer.Answer.{Answer}
-use Rattle.memory_outside.specs.Books.{HeldBook}
+use Rattle.memory_outside.specs.ChildLogs.{HeldChildLog}
 
 -- a table of answers, and a book
 pub record Script : Type 0 where
   pub answers : List Answer
-  pub book : HeldBook
+  pub child_log : HeldChildLog
 
 -- the exit of a child whose request the table doesn't have
 abbrev pub unknown_exit : Exit

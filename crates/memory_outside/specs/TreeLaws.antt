@@ -110,7 +110,7 @@ all_inserted P (x ∷ xs) k all here =
       | Greater ↦ (all.0, all_inserted P xs k all.1 here)
     ]
 
--- a path put in at its place leaves a sorted list sorted
+-- a path put in at its index leaves a sorted list sorted
 sorted_inserted : (xs : List Path) (k : Path) → Sorted xs → Sorted (insert_key (slice_cmp nat_cmp) xs k)
 unfolding IsStrictlySortedBy
 sorted_inserted [] k sorted = (tt, tt)

@@ -7,7 +7,7 @@ use crate::disk_reads::DiskReads;
 use crate::disk_sides::DiskSides;
 use crate::images::fits;
 use crate::logged::{LoggedCall, LoggedCalls};
-use crate::side_book::SideBook;
+use crate::side_writes::SideWrites;
 use base::{NoMemory, Text};
 use outside::Side;
 use std::alloc::Global;
@@ -117,12 +117,12 @@ impl DiskLog {
 }
 
 /// A side that begins with these bytes.
-fn beginning_side(alloc: Global, bytes: &[u8]) -> Result<SideBook, NoMemory>
+fn beginning_side(alloc: Global, bytes: &[u8]) -> Result<SideWrites, NoMemory>
     ensures { IfOk result (λ side. side ≡ beginning bytes.now) }
 {
     if fits(0, bytes.len()) {
-        SideBook::settled(alloc, bytes)
+        SideWrites::from_synced(alloc, bytes)
     } else {
-        Ok(SideBook::new(alloc))
+        Ok(SideWrites::new(alloc))
     }
 }

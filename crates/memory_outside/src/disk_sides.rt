@@ -4,7 +4,7 @@ ghost use Rattle.outside.specs.Disks.{Image, on_side, side_of, settled as settle
 ghost use Rattle.memory_outside.specs.Disks.{side_after};
 
 use crate::logged::Act;
-use crate::side_book::SideBook;
+use crate::side_writes::SideWrites;
 use base::NoMemory;
 use outside::Side;
 use std::alloc::Global;
@@ -13,8 +13,8 @@ use std::marker::Model;
 /// Both sides of a disk.
 #[derive(Drop)]
 pub struct DiskSides {
-    a: SideBook,
-    b: SideBook,
+    a: SideWrites,
+    b: SideWrites,
 }
 
 impl Model for DiskSides {
@@ -27,14 +27,14 @@ impl Model for DiskSides {
 
 impl DiskSides {
     /// A disk of these two sides.
-    pub fn new(a: SideBook, b: SideBook) -> DiskSides
+    pub fn new(a: SideWrites, b: SideWrites) -> DiskSides
         ensures { result ≡ record { a = a; b = b } }
     {
         DiskSides { a, b }
     }
 
     /// One side.
-    pub fn side(&self, side: Side) -> &SideBook
+    pub fn side(&self, side: Side) -> &SideWrites
         ensures { result.now ≡ side_of side self.now }
     {
         match side {

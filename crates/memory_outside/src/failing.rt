@@ -4,7 +4,7 @@ ghost use Rattle.outside.specs.Counts.{Counted};
 ghost use Rattle.memory_outside.specs.Failing.{fails_next, next_call, no_calls};
 
 use base::Numbers;
-use outside::counted;
+use outside::count_fault;
 
 /// The calls of an object. `failing` has the numbers of those that are to fail, counted from 0.
 #[derive(Drop)]
@@ -49,7 +49,7 @@ impl Calls {
         ensures made { self.new.made ≡ self.old.made }
         ensures failed { Counted self.old.failed self.new.failed }
     {
-        self.failed = counted(self.failed);
+        self.failed = count_fault(self.failed);
     }
 }
 

@@ -45,7 +45,7 @@ impl<T> RoomItems<T> {
         self.list.len() as u64
     }
 
-    /// The item at a place, counted from 0.
+    /// The item at an index, counted from 0.
     pub fn get(&self, i: u64) -> &T
         requires { i < length self.now.items }
         ensures { slice_get self.now.items i ≡ Some result.now }

@@ -1,12 +1,12 @@
 //! Running tickets: which one a wait takes, and how it leaves.
 ghost use Rattle.std.specs.Prelude.{◌≡◌, ◌<◌};
 ghost use Rattle.outside.specs.Children.{without};
-ghost use Rattle.memory_outside.specs.Books.{pick as place_of};
+ghost use Rattle.memory_outside.specs.ChildLogs.{pick as index_of};
 
-/// The place of the ticket that a wait takes.
+/// The index of the ticket that a wait takes.
 pub fn pick(picks: &[u32], wait: u64, running: usize) -> usize
     requires { 0 < running }
-    ensures place { result ≡ place_of picks.now wait running }
+    ensures item_index { result ≡ index_of picks.now wait running }
     ensures within { result < running }
 {
     if wait < picks.len() as u64 {
@@ -16,7 +16,7 @@ pub fn pick(picks: &[u32], wait: u64, running: usize) -> usize
     }
 }
 
-/// Takes a ticket out, at its first place.
+/// Takes a ticket out, at its first index.
 pub fn leave(running: &mut Vec<u64>, ticket: u64)
     ensures { running.new.items ≡ without ticket running.old.items }
 {

@@ -23,11 +23,11 @@ overwritten_before at bytes old k within before =
 -- nor does it after its range
 pub overwritten_after : (at : ℕ) (bytes old : List ℕ) (k : ℕ) → at ≤ length old → at + length bytes ≤ k → get_or (overwritten at bytes old) k 0 ≡ get_or old k 0
 overwritten_after at bytes old k within after =
-    let place : at + length bytes + (k - at - length bytes) ≡ k = omega arith in
+    let position : at + length bytes + (k - at - length bytes) ≡ k = omega arith in
     get_or-append_right (take at old) (bytes ++ drop (at + length bytes) old) at k 0 (length-take-le at old within) (omega arith)
     ∙ get_or-append_right bytes (drop (at + length bytes) old) (length bytes) (k - at) 0 refl (omega arith)
     ∙ get_or-drop (at + length bytes) old (k - at - length bytes) 0
-    ∙ ap (λ (i : ℕ). get_or old i 0) place
+    ∙ ap (λ (i : ℕ). get_or old i 0) position
 
 -- inside a write what reads gave is an image
 pub touching_sound : (at count : ℕ) (side : SideState) → at + count < 2 ^ 63 → IsSoundSide side → IsSoundSide (touching at count side)

@@ -1,4 +1,4 @@
--- The place of the first element that passes a test, from the answer of a search.
+-- The position of the first element that passes a test, from the answer of a search.
 use Rattle.std.proofs.Common.{◌≡◌, ℕ, ◌≤◌, Bool, not, ltb, List, length, Some, None, sym, ◌∙◌, arith, inl, inr}
 use Rattle.std.specs.List.{position, position_or_len}
 use Rattle.std.proofs.lemmas.Bool.{cases_Bool, cond-true, cond-false, ltb-false}

@@ -1,6 +1,6 @@
 -- What is taken from a source and what is put into a sink.
 use Rattle.std.specs.Prelude.{◌≡◌, ℕ, ◌≤◌, nat_le, ◌==◌, Bool, List, ◌++◌, length, Result, Ok, Err, if◌then◌else◌}
-use Rattle.core.specs.List.{before_first, after_first}
+use Rattle.std.specs.List.{before_first, after_first}
 use Rattle.outside.specs.declared.streams.TakeEnd.{TakeEnd}
 use Rattle.outside.specs.declared.streams.TakeEnd.TheVariants.{Got, TooLong}
 use Rattle.outside.specs.declared.streams.LineEnd.{LineEnd}

@@ -14,7 +14,7 @@ mod reports;
 mod streams;
 mod tree;
 
-pub use counts::counted;
+pub use counts::count_fault;
 pub use disk::{Disk, Side};
 pub use durable::{cut_durably, write_durably};
 pub use laws::{laws_of_commits, laws_of_phases};

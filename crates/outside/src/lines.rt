@@ -1,6 +1,6 @@
 //! Where the first line of bytes ends.
 ghost use Rattle.std.specs.Prelude.{◌≡◌, ◌≤◌, length, position};
-ghost use Rattle.core.specs.List.{position_or_len};
+ghost use Rattle.std.specs.List.{position_or_len};
 ghost use Rattle.outside.specs.Streams.{is_line_feed};
 
 /// The index of the first line feed.

@@ -76,7 +76,7 @@ pub trait Procs {
         ensures starts { failed_starts self.new ≡ failed_starts self.old };
 
     /// So many starts more may come, which only what shows progress looks at.
-    fn expects(&mut self, _starts: u64)
+    fn announce_starts(&mut self, _starts: u64)
         ensures running { running self.new ≡ running self.old }
         ensures journal { journal self.new ≡ journal self.old }
         ensures same { answer self.new ≡ answer self.old }
@@ -85,7 +85,7 @@ pub trait Procs {
     {}
 
     /// One of these starts isn't needed.
-    fn spares(&mut self)
+    fn skip_start(&mut self)
         ensures running { running self.new ≡ running self.old }
         ensures journal { journal self.new ≡ journal self.old }
         ensures same { answer self.new ≡ answer self.old }

@@ -85,21 +85,21 @@ pub trait Records: Sized {
 
     /// Whether all files that a file depends on have a record, and its own latest record has what would be asked for it now,
     /// over these as their latest records built them. It takes no memory, and time in proportion to the file's text and list.
-    fn fits(&self, graph: &Graph, at: u32) -> bool
-        requires place { at < length graph.now }
+    fn is_current(&self, graph: &Graph, at: u32) -> bool
+        requires position { at < length graph.now }
         requires over { is_over self.now graph.now }
         ensures { IsTrue result ↔ IsRecorded (latest_of self.now) graph.now at };
 
-    /// What the compiler gave by the latest record of the file at a position, lent from the store, as `artefact` does.
+    /// What the compiler gave by the latest record of the file at a position, borrowed from the store, as `artefact` does.
     fn artefact_at(&self, graph: &Graph, at: u32) -> Option<&[u8]>
-        requires place { at < length graph.now }
+        requires position { at < length graph.now }
         requires over { is_over self.now graph.now }
         ensures bytes { (entry : Entry) → slice_get graph.now at ≡ Some entry →
             option_map (λ bytes. bytes.now) result
             ≡ option_map (λ kept. kept.artefact) (latest_of self.now entry.name) }
         ensures size { IfSome result (λ bytes. length bytes.now ≤ ARTEFACT_LIMIT) };
 
-    /// What the compiler gave by the latest record of a name, lent from the store; `None` exactly where the name
+    /// What the compiler gave by the latest record of a name, borrowed from the store; `None` exactly where the name
     /// has no record. It takes no memory.
     fn artefact(&self, name: &FileName) -> Option<&[u8]>
         ensures bytes { option_map (λ bytes. bytes.now) result
@@ -114,7 +114,7 @@ pub trait Records: Sized {
         at: u32,
         artefact: &Text,
     ) -> Result<Self::Prepared, NoMemory>
-        requires place { at < length graph.now }
+        requires position { at < length graph.now }
         requires over { is_over self.old graph.now }
         requires artefact { length artefact.now ≤ ARTEFACT_LIMIT }
         requires built { All (HasLatest (latest_of self.old) graph.now) (deps_at graph.now at) }
@@ -206,7 +206,11 @@ pub trait OpenRecords<'g>: Records {
 
     /// Opens a disk without records, whatever it holds, for the files of a graph. It first syncs both sides, and takes up
     /// nothing of what they hold.
-    fn emptied<D: Disk>(alloc: Global, disk: &mut D, graph: &'g Graph) -> Result<Self, StoreFault>
+    fn open_empty<D: Disk>(
+        alloc: Global,
+        disk: &mut D,
+        graph: &'g Graph,
+    ) -> Result<Self, StoreFault>
         // Once both sides are synced, a stop can leave the records of what reads gave at entry, or none.
         ensures opens { D.tells →
             let before = Self.records_of (reads_of (D.moments disk.old).now) in

@@ -17,7 +17,7 @@ use Rattle.base.specs.declared.project.ProjectFault.{ProjectFault}
 use Rattle.base.specs.declared.project.ProjectFault.TheVariants.{WorkLibrary, DuplicateFile, BadLine}
 use Rattle.base.specs.Names.{IsBetween, FitsName, is_same_name, has_name}
 use Rattle.base.specs.Projects.{IsProject, IsProjectFile}
-use Rattle.base_name_set.proofs.SameNames.{same_names}
+use Rattle.base_collections.proofs.SameNames.{same_names}
 use Rattle.project_file.specs.Csv.{csv_file_of, names_file, trim, begins_with_letter, name_fault, admitted, then_read, added_by, files_after, listed_file, listed_project, listed_command}
 use Rattle.base.specs.declared.limits.TheConstants.{WORD_LIMIT}
 

@@ -11,7 +11,7 @@ use Rattle.std.proofs.lemmas.List.Folds.{list_any-append, list_any_at, list_any_
 use Rattle.std.proofs.lemmas.Map.Views.{any-filter_same, Contains-from_any}
 use Rattle.std.proofs.lemmas.Option.{get_or_from_slice_get, slice_get_within}
 use Rattle.std.proofs.lemmas.Slice.Eq.{bytes_eq-Decides}
-use Rattle.base_numbering.specs.Numbers.{IsNumbered}
+use Rattle.base_collections.specs.Numbers.{IsNumbered}
 use Rattle.toml.specs.Data.{Members}
 use Rattle.base.specs.declared.file.FileName.{FileName}
 use Rattle.base.specs.declared.memory.OrMemory.{OrMemory}
@@ -22,7 +22,7 @@ use Rattle.base.specs.Names.{is_same_name}
 use Rattle.project_file.specs.Csv.{then_read}
 use Rattle.project_file.specs.Paths.{matches_path}
 use Rattle.project_file.specs.Steps.{ReadsStep}
-use Rattle.project_file.specs.Toml.{is_among, library_after, matching_names, file_in, library_files, files_of, place_of, required, texts_of}
+use Rattle.project_file.specs.Toml.{is_among, library_after, matching_names, file_in, library_files, files_of, index_of_file, required, texts_of}
 use Rattle.project_file.specs.Libraries.{alone}
 use Rattle.project_file.specs.Few.{among_files, faults_of, has_path, is_wanted, library_name, IsLookup}
 use Rattle.project_file.proofs.TomlNames.{files_new, files_read, named_is, named_new, ok_same, then_ok, AreNew}
@@ -121,7 +121,7 @@ none_before before files name new came = list_any_none (λ file. is_same_name fi
     first_of false b is = is
 
 module _ (names compiler : List (List ℕ)) (once : AllPairs (λ a b. a ≢ b) names) (name : FileName) where
-  -- the library at a place isn't one of those before
+  -- the library at an index isn't one of those before
   later_new : (before : List (List ℕ)) (tables : List Members) (keys : List FileName) (files : List ProjectFile) → files_of names compiler before tables ≡ Ok files → map (λ (key : FileName). Ok key.library) keys ≡ map library_name tables
       → (k : ℕ) (d : FileName) → k < length keys → is_among before (get_or keys k d).library ≡ false
   unfolding files_of
@@ -140,7 +140,7 @@ module _ (names compiler : List (List ℕ)) (once : AllPairs (λ a b. a ≢ b) n
       let new = later_new (before ++ library.0 ∷ []) tables keys others.0 others.1 rest k d (omega (arith, low)) in
       (or_parts _ _ (sym (list_any-append (bytes_eq (get_or keys k d).library) before (library.0 ∷ [])) ∙ new)).0
 
-  -- a file of the library at a place
+  -- a file of the library at an index
   has_at : (before : List (List ℕ)) (tables : List Members) (keys : List FileName) (files : List ProjectFile) → files_of names compiler before tables ≡ Ok files → map (λ (key : FileName). Ok key.library) keys ≡ map library_name tables
       → (k : ℕ) (d : FileName) (t : Members) → k < length keys → (get_or keys k d).library ≡ name.library → has_path names name.path (get_or tables k t) ≡ Ok (among_files files name)
   unfolding files_of
@@ -200,13 +200,13 @@ module _ (names compiler : List (List ℕ)) (once : AllPairs (λ a b. a ≢ b) n
 
 -- ## A file that is looked up
 
-pub found_is : {V : Type 0} (see : V → Members) (names compiler : List (List ℕ)) (tables : List V) (keys paths : List FileName) (files : List ProjectFile) (name : FileName) (place : ℕ) (table : V) (result : Result Bool (OrMemory ProjectFault)) → IsLookup names compiler (map see tables) keys paths files
-    → slice_get keys place ≡ Some (alone name.library) → place < length tables → table ≡ get_or tables place table → ReadsStep (has_path names name.path (see table)) result → ReadsStep (Ok (among_files files name)) result
-found_is see names compiler tables keys paths files name place table result gives at few there said =
-    let low : place < length keys = slice_get_within keys place (alone name.library) at in
-    let here : (get_or keys place (alone name.library)).library ≡ name.library = ap (λ (key : FileName). key.library) (get_or_from_slice_get keys place (alone name.library) (alone name.library) at) in
-    let seen : get_or (map see tables) place (see table) ≡ see table = get_or-map see tables place table (see table) few ∙ ap see (sym there) in
-    let has = has_at names compiler gives.once name [] (map see tables) keys files gives.said gives.libraries.named place (alone name.library) (see table) low here in
+pub found_is : {V : Type 0} (see : V → Members) (names compiler : List (List ℕ)) (tables : List V) (keys paths : List FileName) (files : List ProjectFile) (name : FileName) (file_index : ℕ) (table : V) (result : Result Bool (OrMemory ProjectFault)) → IsLookup names compiler (map see tables) keys paths files
+    → slice_get keys file_index ≡ Some (alone name.library) → file_index < length tables → table ≡ get_or tables file_index table → ReadsStep (has_path names name.path (see table)) result → ReadsStep (Ok (among_files files name)) result
+found_is see names compiler tables keys paths files name file_index table result gives at few there said =
+    let low : file_index < length keys = slice_get_within keys file_index (alone name.library) at in
+    let here : (get_or keys file_index (alone name.library)).library ≡ name.library = ap (λ (key : FileName). key.library) (get_or_from_slice_get keys file_index (alone name.library) (alone name.library) at) in
+    let seen : get_or (map see tables) file_index (see table) ≡ see table = get_or-map see tables file_index table (see table) few ∙ ap see (sym there) in
+    let has = has_at names compiler gives.once name [] (map see tables) keys files gives.said gives.libraries.named file_index (alone name.library) (see table) low here in
     subst (λ s. ReadsStep s result) (ap (has_path names name.path) (sym seen) ∙ has) said
 
 pub absent_is : (names compiler : List (List ℕ)) (tables : List Members) (keys paths : List FileName) (files : List ProjectFile) (name : FileName) → IsLookup names compiler tables keys paths files → ¬ Contains keys (alone name.library) → among_files files name ≡ false
@@ -215,24 +215,24 @@ absent_is names compiler tables keys paths files name gives none =
     let key : get_or keys k d ≡ alone name.library = ap (λ ks. get_or ks k d) gives.libraries.plain ∙ get_or-map alone (map (λ (key : FileName). key.library) keys) k (get_or keys k d).library d (rw length-map low) ∙ ap alone (get_or-map (λ (key : FileName). key.library) keys k d (get_or keys k d).library low ∙ same) in
     none (k, low, get_or_default keys k (alone name.library) d low ∙ key))
 
-pub place_there : (files : List ProjectFile) (name : FileName) → among_files files name ≡ true → faults_of (place_of files name) ≡ Ok tt
-unfolding place_of
-place_there files name is = by (position (λ file. is_same_name file.name name) files) refl
+pub index_there : (files : List ProjectFile) (name : FileName) → among_files files name ≡ true → faults_of (index_of_file files name) ≡ Ok tt
+unfolding index_of_file
+index_there files name is = by (position (λ file. is_same_name file.name name) files) refl
   where
     by : (found : Option ℕ) → position (λ file. is_same_name file.name name) files ≡ found → faults_of (ok_or (position (λ file. is_same_name file.name name) files) (UnknownDependency name)) ≡ Ok tt
     by None none = absurd (both_ways (among_files files name) (list_any_none (λ file. is_same_name file.name name) files (not_found (λ file. is_same_name file.name name) files none)) is)
-    by (Some place) at = ap (λ found. faults_of (ok_or found (UnknownDependency name))) at
+    by (Some file_index) at = ap (λ found. faults_of (ok_or found (UnknownDependency name))) at
 
-pub no_place_there : (files : List ProjectFile) (name : FileName) → among_files files name ≡ false → faults_of (place_of files name) ≡ Err (UnknownDependency name)
-unfolding place_of
-no_place_there files name none = by (position (λ file. is_same_name file.name name) files) refl
+pub no_index_there : (files : List ProjectFile) (name : FileName) → among_files files name ≡ false → faults_of (index_of_file files name) ≡ Err (UnknownDependency name)
+unfolding index_of_file
+no_index_there files name none = by (position (λ file. is_same_name file.name name) files) refl
   where
     by : (found : Option ℕ) → position (λ file. is_same_name file.name name) files ≡ found → faults_of (ok_or (position (λ file. is_same_name file.name name) files) (UnknownDependency name)) ≡ Err (UnknownDependency name)
     by None at = ap (λ found. faults_of (ok_or found (UnknownDependency name))) at
-    by (Some place) at =
+    by (Some file_index) at =
         let d : ProjectFile = record { name = name; command = [] } in
-        let there = position-Some (λ (file : ProjectFile). is_same_name file.name name) files place d at in
-        absurd (both_ways (among_files files name) none (list_any_at (λ file. is_same_name file.name name) files place d there.0 there.1))
+        let there = position-Some (λ (file : ProjectFile). is_same_name file.name name) files file_index d at in
+        absurd (both_ways (among_files files name) none (list_any_at (λ file. is_same_name file.name name) files file_index d there.0 there.1))
 
 -- a name more
 pub alone_more_name : (names : List (List ℕ)) (i : ℕ) (name : List ℕ) (keys new : List FileName) (number : ℕ) → AllPairs (λ a b. a ≢ b) names → i < length names → name ≡ get_or names i name → keys ≡ map alone (take i names) → IsNumbered (alone name) number keys new
@@ -251,21 +251,21 @@ alone_more_name names i name keys new number once low at are is =
     ]
 
 -- a path that is one of names, and one that isn't
-named_path : (names : List (List ℕ)) (path : List ℕ) (place : ℕ) → slice_get (map alone names) place ≡ Some (alone path) → is_among names path ≡ true
-named_path names path place at =
-    let within : place < length (map alone names) = slice_get_within (map alone names) place (alone path) at in
-    let low : place < length names = rw length-map at within in
-    let here : get_or names place path ≡ path = ap (λ (key : FileName). key.library) (sym (get_or-map alone names place path (alone path) low) ∙ get_or_from_slice_get (map alone names) place (alone path) (alone path) at) in
-    list_any_at (bytes_eq path) names place path low ((bytes_eq-Decides path (get_or names place path)).1 (sym here))
+named_path : (names : List (List ℕ)) (path : List ℕ) (file_index : ℕ) → slice_get (map alone names) file_index ≡ Some (alone path) → is_among names path ≡ true
+named_path names path file_index at =
+    let within : file_index < length (map alone names) = slice_get_within (map alone names) file_index (alone path) at in
+    let low : file_index < length names = rw length-map at within in
+    let here : get_or names file_index path ≡ path = ap (λ (key : FileName). key.library) (sym (get_or-map alone names file_index path (alone path) low) ∙ get_or_from_slice_get (map alone names) file_index (alone path) (alone path) at) in
+    list_any_at (bytes_eq path) names file_index path low ((bytes_eq-Decides path (get_or names file_index path)).1 (sym here))
 
 other_path : (names : List (List ℕ)) (path : List ℕ) → ¬ Contains (map alone names) (alone path) → is_among names path ≡ false
 other_path names path none = false_from_ne_true (is_among names path) (λ t.
     let has = Contains-from_any (λ x y. (bytes_eq-Decides x y).0) path names t in
     none (has.0, rw length-map has.1, get_or-map alone names has.0 path (alone path) has.1 ∙ ap alone has.2))
 
-pub has_named : (names : List (List ℕ)) (paths : List FileName) (path : List ℕ) (place : ℕ) (table : Members) (result : Result Bool (OrMemory ProjectFault)) → paths ≡ map alone names → slice_get paths place ≡ Some (alone path) → ReadsStep (is_wanted path table) result → ReadsStep (has_path names path table) result
-has_named names paths path place table result are at is =
-    subst (λ s. ReadsStep s result) (sym (cond-true (is_among names path) (is_wanted path table) (Ok false) (named_path names path place (sym (ap (λ ks. slice_get ks place) are) ∙ at)))) is
+pub has_named : (names : List (List ℕ)) (paths : List FileName) (path : List ℕ) (file_index : ℕ) (table : Members) (result : Result Bool (OrMemory ProjectFault)) → paths ≡ map alone names → slice_get paths file_index ≡ Some (alone path) → ReadsStep (is_wanted path table) result → ReadsStep (has_path names path table) result
+has_named names paths path file_index table result are at is =
+    subst (λ s. ReadsStep s result) (sym (cond-true (is_among names path) (is_wanted path table) (Ok false) (named_path names path file_index (sym (ap (λ ks. slice_get ks file_index) are) ∙ at)))) is
 
 pub has_unnamed : (names : List (List ℕ)) (paths : List FileName) (path : List ℕ) (table : Members) → paths ≡ map alone names → ¬ Contains paths (alone path) → has_path names path table ≡ Ok false
 has_unnamed names paths path table are none = cond-false (is_among names path) (is_wanted path table) (Ok false) (other_path names path (subst (λ ks. ¬ Contains ks (alone path)) are none))

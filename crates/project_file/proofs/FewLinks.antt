@@ -12,7 +12,7 @@ use Rattle.base.specs.declared.project.ProjectFault.{ProjectFault}
 use Rattle.base.specs.declared.limits.TheConstants.{FILE_LIMIT}
 use Rattle.project_file.specs.Csv.{then_read}
 use Rattle.project_file.specs.Steps.{ReadsStep}
-use Rattle.project_file.specs.Toml.{array_of, linked_project, named_file, optional, pair_of, pairs_of, place_of}
+use Rattle.project_file.specs.Toml.{array_of, linked_project, named_file, optional, pair_of, pairs_of, index_of_file}
 use Rattle.project_file.specs.Few.{few_files, few_of, few_said, faults_of, checked_links, checked_pair}
 use Rattle.project_file.proofs.LibrarySum.{fault_ends, fault_before, reads_same}
 use Rattle.project_file.proofs.TomlNames.{ok_same, then_ok}
@@ -27,23 +27,23 @@ checked_pair_is files table = first (named_file (codes "library") (codes "path")
     last (Err fault) used = refl
 
     first : (user used : Result FileName ProjectFault)
-        → then_read user (λ user. then_read used (λ used. then_read (faults_of (place_of files user)) (λ known. faults_of (place_of files used)))) ≡ faults_of {T = Pair} (then_read user (λ user. then_read used (λ used. then_read (place_of files user) (λ user. then_read (place_of files used) (λ used. Ok (record { user = user; used = used }))))))
-    first (Ok user) (Ok used) = last (place_of files user) (place_of files used)
+        → then_read user (λ user. then_read used (λ used. then_read (faults_of (index_of_file files user)) (λ known. faults_of (index_of_file files used)))) ≡ faults_of {T = Pair} (then_read user (λ user. then_read used (λ used. then_read (index_of_file files user) (λ user. then_read (index_of_file files used) (λ used. Ok (record { user = user; used = used }))))))
+    first (Ok user) (Ok used) = last (index_of_file files user) (index_of_file files used)
     first (Ok user) (Err fault) = refl
     first (Err fault) used = refl
 
 -- what is said of a dependency whose files are named
-pub pair_named : (files : List ProjectFile) (table : Members) (user used : FileName) → named_file (codes "library") (codes "path") table ≡ Ok user → named_file (codes "on_library") (codes "on_path") table ≡ Ok used → checked_pair files table ≡ then_read (faults_of (place_of files user)) (λ known. faults_of (place_of files used))
+pub pair_named : (files : List ProjectFile) (table : Members) (user used : FileName) → named_file (codes "library") (codes "path") table ≡ Ok user → named_file (codes "on_library") (codes "on_path") table ≡ Ok used → checked_pair files table ≡ then_read (faults_of (index_of_file files user)) (λ known. faults_of (index_of_file files used))
 pair_named files table user used first second =
-    ap (λ (s : Result FileName ProjectFault). then_read s (λ user. then_read (named_file (codes "on_library") (codes "on_path") table) (λ used. then_read (faults_of (place_of files user)) (λ known. faults_of (place_of files used))))) first
-    ∙ ap (λ (s : Result FileName ProjectFault). then_read s (λ used. then_read (faults_of (place_of files user)) (λ known. faults_of (place_of files used)))) second
+    ap (λ (s : Result FileName ProjectFault). then_read s (λ user. then_read (named_file (codes "on_library") (codes "on_path") table) (λ used. then_read (faults_of (index_of_file files user)) (λ known. faults_of (index_of_file files used))))) first
+    ∙ ap (λ (s : Result FileName ProjectFault). then_read s (λ used. then_read (faults_of (index_of_file files user)) (λ known. faults_of (index_of_file files used)))) second
 
-pub pair_fails : (files : List ProjectFile) (table : Members) (user used : FileName) (fault : OrMemory ProjectFault) → named_file (codes "library") (codes "path") table ≡ Ok user → named_file (codes "on_library") (codes "on_path") table ≡ Ok used → ReadsStep (faults_of (place_of files user)) (Err fault) → ReadsStep (checked_pair files table) (Err fault)
-pair_fails files table user used fault first second is = reads_same _ _ (Err fault) (sym (pair_named files table user used first second)) (fault_ends _ (λ known. faults_of (place_of files used)) fault is)
+pub pair_fails : (files : List ProjectFile) (table : Members) (user used : FileName) (fault : OrMemory ProjectFault) → named_file (codes "library") (codes "path") table ≡ Ok user → named_file (codes "on_library") (codes "on_path") table ≡ Ok used → ReadsStep (faults_of (index_of_file files user)) (Err fault) → ReadsStep (checked_pair files table) (Err fault)
+pair_fails files table user used fault first second is = reads_same _ _ (Err fault) (sym (pair_named files table user used first second)) (fault_ends _ (λ known. faults_of (index_of_file files used)) fault is)
 
-pub pair_goes_on : (files : List ProjectFile) (table : Members) (user used : FileName) (result : Result (Unit {0}) (OrMemory ProjectFault)) → named_file (codes "library") (codes "path") table ≡ Ok user → named_file (codes "on_library") (codes "on_path") table ≡ Ok used → faults_of (place_of files user) ≡ Ok tt → ReadsStep (faults_of (place_of files used)) result → ReadsStep (checked_pair files table) result
+pub pair_goes_on : (files : List ProjectFile) (table : Members) (user used : FileName) (result : Result (Unit {0}) (OrMemory ProjectFault)) → named_file (codes "library") (codes "path") table ≡ Ok user → named_file (codes "on_library") (codes "on_path") table ≡ Ok used → faults_of (index_of_file files user) ≡ Ok tt → ReadsStep (faults_of (index_of_file files used)) result → ReadsStep (checked_pair files table) result
 pair_goes_on files table user used result first second known is =
-    reads_same _ _ result (sym (pair_named files table user used first second ∙ ap (λ s. then_read s (λ known. faults_of (place_of files used))) known)) is
+    reads_same _ _ result (sym (pair_named files table user used first second ∙ ap (λ s. then_read s (λ known. faults_of (index_of_file files used))) known)) is
 
 -- a dependency more
 module _ {V : Type 0} (see : V → Members) (files : List ProjectFile) (tables : List V) (i : ℕ) (table : V) (low : i < length tables) (at : table ≡ get_or tables i table) (whole : Result (Unit {0}) ProjectFault)

@@ -10,7 +10,7 @@ use Rattle.std.proofs.lemmas.Slice.Eq.{bytes_eq-Decides}
 use Rattle.std.proofs.lemmas.Option.{get_or_from_slice_get, slice_get_within}
 use Rattle.base.specs.declared.file.FileName.{FileName}
 use Rattle.base.specs.declared.project.ProjectFault.TheVariants.{WorkLibrary, DuplicateLibrary}
-use Rattle.base_numbering.specs.Numbers.{IsNumbered}
+use Rattle.base_collections.specs.Numbers.{IsNumbered}
 use Rattle.project_file.specs.Toml.{is_among, new_library}
 use Rattle.project_file.specs.Libraries.{alone, libraries_of}
 
@@ -23,11 +23,11 @@ unfolding new_library
 other_is before library other = cond-false (bytes_eq library (codes "work")) (Err WorkLibrary) (cond (is_among before library) (Err (DuplicateLibrary library)) (Ok library)) other
 
 -- a library that is a key
-pub came_is : (keys : List FileName) (library : List ℕ) (place : ℕ) → bytes_eq library (codes "work") ≡ false → slice_get keys place ≡ Some (alone library) → new_library (libraries_of keys) library ≡ Err (DuplicateLibrary library)
-came_is keys library place other is =
-    let low : place < length keys = slice_get_within keys place (alone library) is in
-    let here : get_or (libraries_of keys) place library ≡ library = get_or-map (λ key. key.library) keys place (alone library) library low ∙ ap (λ (key : FileName). key.library) (get_or_from_slice_get keys place (alone library) (alone library) is) in
-    let among : is_among (libraries_of keys) library ≡ true = list_any_at (bytes_eq library) (libraries_of keys) place library (rw length-map low) ((bytes_eq-Decides library (get_or (libraries_of keys) place library)).1 (sym here)) in
+pub came_is : (keys : List FileName) (library : List ℕ) (file_index : ℕ) → bytes_eq library (codes "work") ≡ false → slice_get keys file_index ≡ Some (alone library) → new_library (libraries_of keys) library ≡ Err (DuplicateLibrary library)
+came_is keys library file_index other is =
+    let low : file_index < length keys = slice_get_within keys file_index (alone library) is in
+    let here : get_or (libraries_of keys) file_index library ≡ library = get_or-map (λ key. key.library) keys file_index (alone library) library low ∙ ap (λ (key : FileName). key.library) (get_or_from_slice_get keys file_index (alone library) (alone library) is) in
+    let among : is_among (libraries_of keys) library ≡ true = list_any_at (bytes_eq library) (libraries_of keys) file_index library (rw length-map low) ((bytes_eq-Decides library (get_or (libraries_of keys) file_index library)).1 (sym here)) in
     other_is (libraries_of keys) library other ∙ cond-true (is_among (libraries_of keys) library) (Err (DuplicateLibrary library)) (Ok library) among
 
 not_among : (keys : List FileName) (library : List ℕ) → keys ≡ map alone (libraries_of keys) → ¬ Contains keys (alone library) → is_among (libraries_of keys) library ≡ false

@@ -10,19 +10,19 @@ use Rattle.std.proofs.lemmas.List.Elements.{filter_more, All-push}
 use Rattle.std.proofs.lemmas.List.Folds.{list_any_at, list_any-append}
 use Rattle.std.proofs.lemmas.Map.Views.{Contains-from_any}
 use Rattle.std.proofs.lemmas.Slice.Eq.{bytes_eq-Decides}
-use Rattle.test_select.specs.Fits.{ends_of, first_is, fits_pieces}
-use Rattle.base_numbering.specs.Numbers.{NumbersBelow, IsAdded}
+use Rattle.testbench_select.specs.Fits.{ends_of, first_is, fits_pattern_parts}
+use Rattle.base_collections.specs.Numbers.{NumbersBelow, IsAdded}
 use Rattle.base.specs.declared.project.ProjectFault.{ProjectFault}
 use Rattle.base.specs.declared.project.ProjectFault.TheVariants.{NothingMatches}
 use Rattle.project_file.specs.declared.paths.Part.{Part}
 use Rattle.project_file.specs.Paths.{components, is_any_components, is_component_of, matches_path}
 use Rattle.project_file.specs.PathRows.{part_of, fits_parts}
 use Rattle.project_file.specs.Toml.{is_among, matching_names}
-use Rattle.project_file.specs.Libraries.{texts_at, ArePlaces, AddsWanted, TakesMatching}
+use Rattle.project_file.specs.Libraries.{texts_at, AreIndices, AddsWanted, TakesMatching}
 
 -- parts as they are read, and as they are written
-parts_fit : (parts cs : List (List ℕ)) → fits_parts (map part_of parts) cs ≡ fits_pieces is_any_components is_component_of parts cs
-unfolding fits_pieces
+parts_fit : (parts cs : List (List ℕ)) → fits_parts (map part_of parts) cs ≡ fits_pattern_parts is_any_components is_component_of parts cs
+unfolding fits_pattern_parts
 parts_fit [] [] = refl
 parts_fit [] (c ∷ cs) = refl
 parts_fit (part ∷ parts) cs = ap (λ (rest : List (List ℕ) → Bool). cond (is_any_components part) (list_any rest (ends_of cs)) (first_is (is_component_of part) rest cs)) (fun_ext (parts_fit parts))
@@ -54,9 +54,9 @@ or_nothing true = refl
 or_nothing false = refl
 
 module _ (names : List (List ℕ)) (distinct : AllPairs (λ name other. name ≢ other) names) where
-  -- a name has one place
-  one_place : (a b : ℕ) → a < length names → b < length names → get_or names a [] ≡ get_or names b [] → a ≡ b
-  one_place a b low_a low_b same = elim (cases_lt a b) [
+  -- a name has one index
+  one_index : (a b : ℕ) → a < length names → b < length names → get_or names a [] ≡ get_or names b [] → a ≡ b
+  one_index a b low_a low_b same = elim (cases_lt a b) [
     | inl less ↦ absurd (distinct a b [] less low_b same)
     | inr more ↦ elim (cases_lt b a) [
       | inl less ↦ absurd (distinct b a [] less low_a (sym same))
@@ -73,17 +73,17 @@ module _ (names : List (List ℕ)) (distinct : AllPairs (λ name other. name ≢
       let other : get_or names has.0 [] ≡ get_or names i [] = get_or_default names has.0 [] (get_or names i []) late ∙ sym (get_or-take i names has.0 (get_or names i []) early) ∙ has.2 in
       distinct has.0 i [] early low other)
 
-  among_from : (places : List ℕ) (i : ℕ) → Contains places i → is_among (texts_at names places) (get_or names i []) ≡ true
-  among_from places i has =
-      let here : get_or (texts_at names places) has.0 [] ≡ get_or names i [] = get_or-map (λ place. get_or names place []) places has.0 i [] has.1 ∙ ap (λ n. get_or names n []) has.2 in
-      list_any_at (bytes_eq (get_or names i [])) (texts_at names places) has.0 [] (rw length-map has.1) ((bytes_eq-Decides _ _).1 (sym here))
+  among_from : (indices : List ℕ) (i : ℕ) → Contains indices i → is_among (texts_at names indices) (get_or names i []) ≡ true
+  among_from indices i has =
+      let here : get_or (texts_at names indices) has.0 [] ≡ get_or names i [] = get_or-map (λ file_index. get_or names file_index []) indices has.0 i [] has.1 ∙ ap (λ n. get_or names n []) has.2 in
+      list_any_at (bytes_eq (get_or names i [])) (texts_at names indices) has.0 [] (rw length-map has.1) ((bytes_eq-Decides _ _).1 (sym here))
 
-  from_among : (places : List ℕ) (i : ℕ) → i < length names → All (λ place. place < length names) places → is_among (texts_at names places) (get_or names i []) ≡ true → Contains places i
-  from_among places i low each is =
-      let has = Contains-from_any (λ x y. (bytes_eq-Decides x y).0) (get_or names i []) (texts_at names places) is in
-      let within : has.0 < length places = rw length-map at has.1 in
-      let here : get_or names (get_or places has.0 i) [] ≡ get_or names i [] = sym (get_or-map (λ place. get_or names place []) places has.0 i (get_or names i []) within) ∙ has.2 in
-      (has.0, within, one_place (get_or places has.0 i) i (each has.0 i within) low here)
+  from_among : (indices : List ℕ) (i : ℕ) → i < length names → All (λ file_index. file_index < length names) indices → is_among (texts_at names indices) (get_or names i []) ≡ true → Contains indices i
+  from_among indices i low each is =
+      let has = Contains-from_any (λ x y. (bytes_eq-Decides x y).0) (get_or names i []) (texts_at names indices) is in
+      let within : has.0 < length indices = rw length-map at has.1 in
+      let here : get_or names (get_or indices has.0 i) [] ≡ get_or names i [] = sym (get_or-map (λ file_index. get_or names file_index []) indices has.0 i (get_or names i []) within) ∙ has.2 in
+      (has.0, within, one_index (get_or indices has.0 i) i (each has.0 i within) low here)
 
   module _ (test : List ℕ → Bool) (before : List (List ℕ)) (i : ℕ) (low : i < length names) where
     none_taken : takes test before (get_or names i []) ≡ false → filter (takes test before) (take (i + 1) names) ≡ filter (takes test before) (take i names)
@@ -92,29 +92,29 @@ module _ (names : List (List ℕ)) (distinct : AllPairs (λ name other. name ≢
     one_taken : takes test before (get_or names i []) ≡ true → filter (takes test before) (take (i + 1) names) ≡ filter (takes test before) (take i names) ++ get_or names i [] ∷ []
     one_taken one = filter_more (takes test before) names i [] low ∙ ap (λ b. filter (takes test before) (take i names) ++ cond b (get_or names i [] ∷ []) []) one
 
-    among_both : (places : List ℕ) → texts_at names places ≡ before ++ filter (takes test before) (take i names) → is_among (texts_at names places) (get_or names i []) ≡ is_among before (get_or names i [])
-    among_both places is =
+    among_both : (indices : List ℕ) → texts_at names indices ≡ before ++ filter (takes test before) (take i names) → is_among (texts_at names indices) (get_or names i []) ≡ is_among before (get_or names i [])
+    among_both indices is =
         ap (λ texts. is_among texts (get_or names i [])) is ∙ list_any-append (bytes_eq (get_or names i [])) before (filter (takes test before) (take i names))
         ∙ ap (λ b. is_among before (get_or names i []) || b) (not_before (takes test before) i low) ∙ or_nothing (is_among before (get_or names i []))
 
     -- a name that the pattern matches is added
-    matched : (found new : NumbersBelow) (is_new : Bool) → ArePlaces names found → texts_at names found.numbers ≡ before ++ filter (takes test before) (take i names) → test (get_or names i []) ≡ true → IsAdded is_new i found new
-        → ArePlaces names new × (texts_at names new.numbers ≡ before ++ filter (takes test before) (take (i + 1) names))
-    matched found new true places is matches added =
+    matched : (found new : NumbersBelow) (is_new : Bool) → AreIndices names found → texts_at names found.numbers ≡ before ++ filter (takes test before) (take i names) → test (get_or names i []) ≡ true → IsAdded is_new i found new
+        → AreIndices names new × (texts_at names new.numbers ≡ before ++ filter (takes test before) (take (i + 1) names))
+    matched found new true indices is matches added =
         let numbers : new.numbers ≡ found.numbers ++ i ∷ [] = ap (λ (n : NumbersBelow). n.numbers) added.1 in
-        let not_there : is_among before (get_or names i []) ≡ false = sym (among_both found.numbers is) ∙ false_from_ne_true _ (λ t. added.0 (from_among found.numbers i low places.each t)) in
+        let not_there : is_among before (get_or names i []) ≡ false = sym (among_both found.numbers is) ∙ false_from_ne_true _ (λ t. added.0 (from_among found.numbers i low indices.each t)) in
         let one : takes test before (get_or names i []) ≡ true = rw (matches, not_there) in (
           record {
-            size = subst (λ (n : NumbersBelow). length names ≤ n.size) (sym added.1) places.size;
-            each = subst (All (λ place. place < length names)) (sym numbers) (All-push (λ place. place < length names) found.numbers i places.each low);
+            size = subst (λ (n : NumbersBelow). length names ≤ n.size) (sym added.1) indices.size;
+            each = subst (All (λ file_index. file_index < length names)) (sym numbers) (All-push (λ file_index. file_index < length names) found.numbers i indices.each low);
           },
-          ap (texts_at names) numbers ∙ map_push (λ place. get_or names place []) found.numbers i ∙ ap (λ texts. texts ++ get_or names i [] ∷ []) is
+          ap (texts_at names) numbers ∙ map_push (λ file_index. get_or names file_index []) found.numbers i ∙ ap (λ texts. texts ++ get_or names i [] ∷ []) is
               ∙ append_assoc before (filter (takes test before) (take i names)) (get_or names i [] ∷ []) ∙ ap (λ texts. before ++ texts) (sym (one_taken one)),
         )
-    matched found new false places is matches added =
+    matched found new false indices is matches added =
         let there : is_among before (get_or names i []) ≡ true = sym (among_both found.numbers is) ∙ among_from found.numbers i added.0 in
         let none : takes test before (get_or names i []) ≡ false = rw (matches, there) in
-        (subst (ArePlaces names) (sym added.1) places, ap (λ (n : NumbersBelow). texts_at names n.numbers) added.1 ∙ is ∙ ap (λ texts. before ++ texts) (sym (none_taken none)))
+        (subst (AreIndices names) (sym added.1) indices, ap (λ (n : NumbersBelow). texts_at names n.numbers) added.1 ∙ is ∙ ap (λ texts. before ++ texts) (sym (none_taken none)))
 
     -- another is passed over
     unmatched : (texts : List (List ℕ)) → texts ≡ before ++ filter (takes test before) (take i names) → test (get_or names i []) ≡ false → texts ≡ before ++ filter (takes test before) (take (i + 1) names)
@@ -123,11 +123,11 @@ module _ (names : List (List ℕ)) (distinct : AllPairs (λ name other. name ≢
         is ∙ ap (λ found. before ++ found) (sym (none_taken none))
 
     -- one name more
-    pub taken_more : (found new : NumbersBelow) (wanted : Bool) → ArePlaces names found → texts_at names found.numbers ≡ before ++ filter (takes test before) (take i names) → wanted ≡ test (get_or names i []) → AddsWanted wanted i found new
-        → ArePlaces names new × (texts_at names new.numbers ≡ before ++ filter (takes test before) (take (i + 1) names))
-    taken_more found new true places is wanted added = matched found new added.0 places is (sym wanted) added.1
-    taken_more found new false places is wanted added =
-        (subst (ArePlaces names) (sym added) places, unmatched (texts_at names new.numbers) (ap (λ (n : NumbersBelow). texts_at names n.numbers) added ∙ is) (sym wanted))
+    pub taken_more : (found new : NumbersBelow) (wanted : Bool) → AreIndices names found → texts_at names found.numbers ≡ before ++ filter (takes test before) (take i names) → wanted ≡ test (get_or names i []) → AddsWanted wanted i found new
+        → AreIndices names new × (texts_at names new.numbers ≡ before ++ filter (takes test before) (take (i + 1) names))
+    taken_more found new true indices is wanted added = matched found new added.0 indices is (sym wanted) added.1
+    taken_more found new false indices is wanted added =
+        (subst (AreIndices names) (sym added) indices, unmatched (texts_at names new.numbers) (ap (λ (n : NumbersBelow). texts_at names n.numbers) added ∙ is) (sym wanted))
 
 -- pattern after pattern
 module _ (names patterns : List (List ℕ)) (i : ℕ) (d : List ℕ) (low : i < length patterns) (old new : NumbersBelow) (any : Bool) (whole : Result (List (List ℕ)) ProjectFault) (is : TakesMatching names (get_or patterns i d) old new any) (kept : matching_names names (texts_at names old.numbers) (drop i patterns) ≡ whole) where

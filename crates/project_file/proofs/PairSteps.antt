@@ -7,8 +7,8 @@ use Rattle.std.proofs.lemmas.Bool.{cases_Bool, cases_lt, cond-true, ltb-false}
 use Rattle.std.proofs.lemmas.List.Quantifiers.{position-Some}
 use Rattle.std.proofs.lemmas.List.{drop_more, drop_all, append-nil, append_assoc, get_or-map, length-map, map_push, take_more, get_or-take, length-take}
 use Rattle.std.proofs.lemmas.Option.{get_or_from_slice_get, slice_get_within, none-some}
-use Rattle.base_numbering.specs.Numbers.{IsNumbered}
-use Rattle.base_numbering.specs.NameLaws.{names_decide}
+use Rattle.base_collections.specs.Numbers.{IsNumbered}
+use Rattle.base_collections.specs.NameLaws.{names_decide}
 use Rattle.toml.specs.Data.{Members}
 use Rattle.base.specs.declared.file.FileName.{FileName}
 use Rattle.base.specs.declared.memory.OrMemory.{OrMemory}
@@ -19,7 +19,7 @@ use Rattle.base.specs.declared.project.ProjectFault.TheVariants.{UnknownDependen
 use Rattle.base.specs.Names.{is_same_name}
 use Rattle.project_file.specs.Csv.{then_read}
 use Rattle.project_file.specs.Steps.{ReadsStep}
-use Rattle.project_file.specs.Toml.{place_of, pair_of, pairs_of}
+use Rattle.project_file.specs.Toml.{index_of_file, pair_of, pairs_of}
 use Rattle.project_file.specs.Pairs.{names_of, IsIndexOf}
 use Rattle.project_file.proofs.LibrarySum.{fault_ends, reads_same}
 
@@ -40,9 +40,9 @@ not_found p xs none = elim (cases_Bool (ltb (position_or_len p xs) (length xs)))
   | inr f ↦ all_fail p xs (ltb-false _ _ f)
 ]
 
--- where no two are the same, one has one place
-one_place : {X : Type 0} (xs : List X) → AllPairs (λ a b. a ≢ b) xs → (a b : ℕ) (d : X) → a < length xs → b < length xs → get_or xs a d ≡ get_or xs b d → a ≡ b
-one_place xs once a b d low_a low_b same = elim (cases_lt a b) [
+-- where no two are the same, one has one index
+one_index : {X : Type 0} (xs : List X) → AllPairs (λ a b. a ≢ b) xs → (a b : ℕ) (d : X) → a < length xs → b < length xs → get_or xs a d ≡ get_or xs b d → a ≡ b
+one_index xs once a b d low_a low_b same = elim (cases_lt a b) [
   | inl less ↦ absurd (once a b d less low_b same)
   | inr more ↦ elim (cases_lt b a) [
     | inl less ↦ absurd (once b a d less low_a (sym same))
@@ -50,43 +50,43 @@ one_place xs once a b d low_a low_b same = elim (cases_lt a b) [
   ]
 ]
 
--- the first place of a name is the only one
-position_at : (files : List ProjectFile) (name : FileName) (place : ℕ) (d : ProjectFile) → AllPairs (λ a b. a ≢ b) (names_of files) → place < length files → (get_or files place d).name ≡ name
-    → position (λ file. is_same_name file.name name) files ≡ Some place
-position_at files name place d once low at = by (position (λ file. is_same_name file.name name) files) refl
+-- the first index of a name is the only one
+position_at : (files : List ProjectFile) (name : FileName) (file_index : ℕ) (d : ProjectFile) → AllPairs (λ a b. a ≢ b) (names_of files) → file_index < length files → (get_or files file_index d).name ≡ name
+    → position (λ file. is_same_name file.name name) files ≡ Some file_index
+position_at files name file_index d once low at = by (position (λ file. is_same_name file.name name) files) refl
   where
-    by : (found : Option ℕ) → position (λ file. is_same_name file.name name) files ≡ found → position (λ file. is_same_name file.name name) files ≡ Some place
+    by : (found : Option ℕ) → position (λ file. is_same_name file.name name) files ≡ found → position (λ file. is_same_name file.name name) files ≡ Some file_index
     by None is =
-        let no : is_same_name (get_or files place d).name name ≡ false = not_found (λ file. is_same_name file.name name) files is place d low in
-        absurd (true≢false (sym ((names_decide (get_or files place d).name name).1 at) ∙ no))
+        let no : is_same_name (get_or files file_index d).name name ≡ false = not_found (λ file. is_same_name file.name name) files is file_index d low in
+        absurd (true≢false (sym ((names_decide (get_or files file_index d).name name).1 at) ∙ no))
     by (Some other) is =
         let there = position-Some (λ (file : ProjectFile). is_same_name file.name name) files other d is in
-        let same : (get_or files other d).name ≡ (get_or files place d).name = (names_decide (get_or files other d).name name).0 there.1 ∙ sym at in
-        let names : get_or (names_of files) other d.name ≡ get_or (names_of files) place d.name = get_or-map (λ (file : ProjectFile). file.name) files other d d.name there.0 ∙ same ∙ sym (get_or-map (λ (file : ProjectFile). file.name) files place d d.name low) in
-        is ∙ ap Some (one_place (names_of files) once other place d.name (rw length-map there.0) (rw length-map low) names)
+        let same : (get_or files other d).name ≡ (get_or files file_index d).name = (names_decide (get_or files other d).name name).0 there.1 ∙ sym at in
+        let names : get_or (names_of files) other d.name ≡ get_or (names_of files) file_index d.name = get_or-map (λ (file : ProjectFile). file.name) files other d d.name there.0 ∙ same ∙ sym (get_or-map (λ (file : ProjectFile). file.name) files file_index d d.name low) in
+        is ∙ ap Some (one_index (names_of files) once other file_index d.name (rw length-map there.0) (rw length-map low) names)
 
 no_position : (files : List ProjectFile) (name : FileName) → ¬ Contains (names_of files) name → position (λ file. is_same_name file.name name) files ≡ None
 no_position files name none = by (position (λ file. is_same_name file.name name) files) refl
   where
     by : (found : Option ℕ) → position (λ file. is_same_name file.name name) files ≡ found → position (λ file. is_same_name file.name name) files ≡ None
     by None is = is
-    by (Some place) is =
+    by (Some file_index) is =
         let d : ProjectFile = record { name = name; command = [] } in
-        let there = position-Some (λ (file : ProjectFile). is_same_name file.name name) files place d is in
-        absurd (none (place, rw length-map there.0, get_or-map (λ (file : ProjectFile). file.name) files place d name there.0 ∙ (names_decide (get_or files place d).name name).0 there.1))
+        let there = position-Some (λ (file : ProjectFile). is_same_name file.name name) files file_index d is in
+        absurd (none (file_index, rw length-map there.0, get_or-map (λ (file : ProjectFile). file.name) files file_index d name there.0 ∙ (names_decide (get_or files file_index d).name name).0 there.1))
 
-pub place_is : (files : List ProjectFile) (keys : List FileName) (name : FileName) (place : ℕ) → IsIndexOf files keys → slice_get keys place ≡ Some name → place_of files name ≡ Ok place
-unfolding place_of
-place_is files keys name place is at =
+pub index_is : (files : List ProjectFile) (keys : List FileName) (name : FileName) (file_index : ℕ) → IsIndexOf files keys → slice_get keys file_index ≡ Some name → index_of_file files name ≡ Ok file_index
+unfolding index_of_file
+index_is files keys name file_index is at =
     let d : ProjectFile = record { name = name; command = [] } in
-    let named : place < length (names_of files) = subst (λ ks. place < length ks) is.names (slice_get_within keys place name at) in
-    let low : place < length files = rw length-map at named in
-    let here : (get_or files place d).name ≡ name = sym (get_or-map (λ (file : ProjectFile). file.name) files place d name low) ∙ ap (λ ks. get_or ks place name) (sym is.names) ∙ get_or_from_slice_get keys place name name at in
-    ap (λ p. ok_or p (UnknownDependency name)) (position_at files name place d (subst (AllPairs (λ a b. a ≢ b)) is.names is.once) low here)
+    let named : file_index < length (names_of files) = subst (λ ks. file_index < length ks) is.names (slice_get_within keys file_index name at) in
+    let low : file_index < length files = rw length-map at named in
+    let here : (get_or files file_index d).name ≡ name = sym (get_or-map (λ (file : ProjectFile). file.name) files file_index d name low) ∙ ap (λ ks. get_or ks file_index name) (sym is.names) ∙ get_or_from_slice_get keys file_index name name at in
+    ap (λ p. ok_or p (UnknownDependency name)) (position_at files name file_index d (subst (AllPairs (λ a b. a ≢ b)) is.names is.once) low here)
 
-pub no_place : (files : List ProjectFile) (keys : List FileName) (name : FileName) → IsIndexOf files keys → ¬ Contains keys name → place_of files name ≡ Err (UnknownDependency name)
-unfolding place_of
-no_place files keys name is none = ap (λ p. ok_or p (UnknownDependency name)) (no_position files name (λ has. none (subst (λ ks. Contains ks name) (sym is.names) has)))
+pub no_index : (files : List ProjectFile) (keys : List FileName) (name : FileName) → IsIndexOf files keys → ¬ Contains keys name → index_of_file files name ≡ Err (UnknownDependency name)
+unfolding index_of_file
+no_index files keys name is none = ap (λ p. ok_or p (UnknownDependency name)) (no_position files name (λ has. none (subst (λ ks. Contains ks name) (sym is.names) has)))
 
 -- a name more
 pub name_more : (files : List ProjectFile) (i : ℕ) (file : ProjectFile) (keys new : List FileName) (number : ℕ) → AllPairs (λ a b. a ≢ b) (names_of files) → i < length files → file ≡ get_or files i file → keys ≡ names_of (take i files)

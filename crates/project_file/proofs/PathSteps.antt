@@ -1,16 +1,16 @@
--- Rows of the ends of a path, with one part more or one place more.
+-- Rows of the ends of a path, with one part more or one index more.
 use Rattle.std.proofs.Common.{◌≡◌, ℕ, zero, suc, ◌+◌, ◌-◌, ◌<◌, ◌≤◌, Bool, true, false, ◌&&◌, ◌||◌, cond, List, [], ◌∷◌, ◌++◌, length, drop, get_or, set, refl, sym, ap, subst, ◌∙◌, arith, inl, inr}
 use Rattle.std.specs.Prelude.{replicate}
 use Rattle.std.specs.Borrow.{Bor}
 use Rattle.std.proofs.lemmas.Bool.{cases_lt}
 use Rattle.std.proofs.lemmas.List.{drop_more, drop_all, get_or-set_same, get_or-set_other, length-set}
-use Rattle.test_select.specs.Segments.{is_match}
-use Rattle.test_select.specs.Fits.{first_is, fits_pieces}
+use Rattle.testbench_select.specs.Segments.{is_match}
+use Rattle.testbench_select.specs.Fits.{first_is, fits_pattern_parts}
 use Rattle.project_file.specs.declared.paths.Part.{Part}
 use Rattle.project_file.specs.PathRows.{texts_seen, fits_parts, IsRowFrom, IsRow, any_end}
 
 module _ (before after : List (List ℕ) → Bool) (components : List (Bor (List ℕ))) (row : List Bool) (j : ℕ) (x : Bool) (within : j ≤ length components) where
-  -- the place before those of the row's end is set
+  -- the index before those of the row's end is set
   pub set_last : IsRowFrom before after components (j + 1) row → x ≡ after (texts_seen (drop j components)) → IsRowFrom before after components j (set row j x)
   set_last is here = record {
     long = length-set row j x ∙ is.long;
@@ -21,7 +21,7 @@ module _ (before after : List (List ℕ) → Bool) (components : List (Bor (List
     ];
   }
 
-  -- the place after those of the row's beginning is set
+  -- the index after those of the row's beginning is set
   pub set_first : IsRowFrom before after components j row → x ≡ before (texts_seen (drop j components)) → IsRowFrom before after components (j + 1) (set row j x)
   set_first is here = record {
     long = length-set row j x ∙ is.long;
@@ -33,8 +33,8 @@ module _ (before after : List (List ℕ) → Bool) (components : List (Bor (List
   }
 
 -- a row of one test alone
-pub row_ends : (before after : List (List ℕ) → Bool) (components : List (Bor (List ℕ))) (row : List Bool) (place : ℕ) → length components < place → IsRowFrom before after components place row → IsRow before components row
-row_ends before after components row place past is = record {
+pub row_ends : (before after : List (List ℕ) → Bool) (components : List (Bor (List ℕ))) (row : List Bool) (file_index : ℕ) → length components < file_index → IsRowFrom before after components file_index row → IsRow before components row
+row_ends before after components row file_index past is = record {
   long = is.long;
   first = λ k low fits. absurd (omega (arith, low));
   last = λ k high fits. is.first k (omega (arith, past, fits)) fits;
@@ -47,7 +47,7 @@ row_from before after components row is = record {
   last = is.last;
 }
 
--- the components from a place on
+-- the components from an index on
 components_at : (components : List (Bor (List ℕ))) (j : ℕ) (d : Bor (List ℕ)) → j < length components → texts_seen (drop j components) ≡ (get_or components j d).now ∷ texts_seen (drop (j + 1) components)
 components_at components j d low = ap texts_seen (drop_more components j d low)
 
@@ -59,7 +59,7 @@ some_at (x ∷ xs) (suc j) low =
     let next : suc (j + 1) ≡ suc j + 1 = omega arith in
     (more.0, more.1 ∙ ap (λ n. more.0 ∷ drop n (x ∷ xs)) next)
 
--- a part that stands for any number of components: one place more
+-- a part that stands for any number of components: one index more
 pub any_step : (test : List (List ℕ) → Bool) (components : List (Bor (List ℕ))) (row : List Bool) (j : ℕ) (x : Bool) → j < length components → x ≡ (get_or row j false || get_or row (j + 1) false)
     → IsRowFrom test (any_end test) components (j + 1) row → IsRowFrom test (any_end test) components j (set row j x)
 any_step test components row j x low is old =
@@ -76,7 +76,7 @@ and_swap true false = refl
 and_swap false true = refl
 and_swap false false = refl
 
--- a part that stands for one component: one place more
+-- a part that stands for one component: one index more
 pub one_step : (right : List ℕ → Bool) (test : List (List ℕ) → Bool) (components : List (Bor (List ℕ))) (row : List Bool) (j : ℕ) (d : Bor (List ℕ)) (x : Bool) → j < length components
     → x ≡ (get_or row (j + 1) false && right (get_or components j d).now) → IsRowFrom (first_is right test) test components j row → IsRowFrom (first_is right test) test components (j + 1) (set row j x)
 one_step right test components row j d x low is old =
@@ -97,7 +97,7 @@ one_last right test components row j within past old =
 
 -- the row of no parts
 pub no_parts_row : (components : List (Bor (List ℕ))) → IsRow (fits_parts []) components (replicate (length components) false ++ true ∷ [])
-unfolding fits_pieces
+unfolding fits_pattern_parts
 no_parts_row [] = record { long = refl; first = λ k low fits. absurd (omega (arith, low)); last = at_end }
   where
     at_end : (k : ℕ) → 0 ≤ k → k ≤ 0 → get_or (true ∷ []) k false ≡ fits_parts [] (texts_seen (drop k []))
@@ -113,7 +113,7 @@ no_parts_row (component ∷ components) = record { long = omega (arith, (no_part
 -- a part more in front
 pub more_parts : (parts : List Part) (i : ℕ) (part : Part) (components : List (Bor (List ℕ))) (row : List Bool) → i < length parts → part ≡ get_or parts i part
     → IsRow (λ cs. cond part.any (any_end (fits_parts (drop (i + 1) parts)) cs) (first_is (is_match part.pattern) (fits_parts (drop (i + 1) parts)) cs)) components row → IsRow (fits_parts (drop i parts)) components row
-unfolding fits_pieces
+unfolding fits_pattern_parts
 more_parts parts i part components row low is row_is =
     subst (λ ps. IsRow (fits_parts ps) components row) (sym (drop_more parts i part low ∙ ap (λ p. p ∷ drop (i + 1) parts) (sym is))) row_is
 
@@ -127,6 +127,6 @@ pub one_part : (parts : List Part) (i : ℕ) (part : Part) (components : List (B
 one_part parts i part components row low is any row_is =
     more_parts parts i part components row low is (subst (λ b. IsRow (λ cs. cond b (any_end (fits_parts (drop (i + 1) parts)) cs) (first_is (is_match part.pattern) (fits_parts (drop (i + 1) parts)) cs)) components row) (sym any) row_is)
 
--- a loop that goes down is at a place before the end
+-- a loop that goes down is at an index before the end
 pub one_down : (at end : ℕ) → at ≤ end → 0 < at → (at - 1 < end) × (at ≡ at - 1 + 1)
 one_down at end within some = (omega (arith, within, some), omega (arith, some))

@@ -1,4 +1,4 @@
--- The parts of a text between marks, one after the other.
+-- The parts of a text between delimiters, one after the other.
 use Rattle.std.proofs.Common.{◌≡◌, ℕ, suc, ◌+◌, ◌<◌, ◌≤◌, Bool, eqb, ltb, List, [], ◌∷◌, length, take, drop, Some, None, refl, sym, ap, ◌∙◌, arith, inl, inr}
 use Rattle.std.specs.List.{slice_split, onto_first, position, position_or_len}
 use Rattle.std.specs.Str.Lines.{lines, lines_of_parts, strip_carriage_return}
@@ -14,8 +14,8 @@ not_found p (x ∷ xs) h =
       | inr f ↦ let less : suc (length xs) ≤ 1 + position_or_len p xs = rw f at h in slice_split-cons_no p x xs f ∙ ap (onto_first x) (not_found p xs (omega arith))
     ]
 
-pub split_at_mark : {X : Type 0} (p : X → Bool) (xs : List X) (i : ℕ) (d : X) → position p xs ≡ Some i → (i < length xs) × (slice_split p xs ≡ take i xs ∷ slice_split p (drop (i + 1) xs))
-split_at_mark p xs i d h =
+pub split_at_delimiter : {X : Type 0} (p : X → Bool) (xs : List X) (i : ℕ) (d : X) → position p xs ≡ Some i → (i < length xs) × (slice_split p xs ≡ take i xs ∷ slice_split p (drop (i + 1) xs))
+split_at_delimiter p xs i d h =
     elim (cases_Bool (ltb (position_or_len p xs) (length xs))) [
       | inl t ↦
           let same : position_or_len p xs ≡ i = same_Some _ _ (sym (cond-true (ltb (position_or_len p xs) (length xs)) (Some (position_or_len p xs)) None t) ∙ h) in
@@ -24,8 +24,8 @@ split_at_mark p xs i d h =
       | inr f ↦ absurd (none-some i (sym (cond-false (ltb (position_or_len p xs) (length xs)) (Some (position_or_len p xs)) None f) ∙ h))
     ]
 
-pub split_no_mark : {X : Type 0} (p : X → Bool) (xs : List X) → position p xs ≡ None → slice_split p xs ≡ xs ∷ []
-split_no_mark p xs h =
+pub split_no_delimiter : {X : Type 0} (p : X → Bool) (xs : List X) → position p xs ≡ None → slice_split p xs ≡ xs ∷ []
+split_no_delimiter p xs h =
     elim (cases_Bool (ltb (position_or_len p xs) (length xs))) [
       | inl t ↦ absurd (none-some (position_or_len p xs) (sym h ∙ cond-true (ltb (position_or_len p xs) (length xs)) (Some (position_or_len p xs)) None t))
       | inr f ↦ not_found p xs (ltb-false _ _ f)

@@ -86,24 +86,24 @@ library_fits text read h =
 
 -- ## Keys
 
-module _ {T : Type 0} (P : T → Type 0) (read : Data → Option T) (place key : List ℕ) (table : Members) (value : T) (each : (item : Data) (x : T) → read item ≡ Some x → P x) where
+module _ {T : Type 0} (P : T → Type 0) (read : Data → Option T) (file_index key : List ℕ) (table : Members) (value : T) (each : (item : Data) (x : T) → read item ≡ Some x → P x) where
   got : (fault : ProjectFault) (item : Data) (r : Option T) → read item ≡ r → ok_or r fault ≡ Ok value → P value
   got fault item None e h = absurd cc
   got fault item (Some x) e h = subst P (ok_same x value h) (each item x e)
 
-  optional_holds : (default : T) → P default → optional read default place key table ≡ Ok value → P value
+  optional_holds : (default : T) → P default → optional read default file_index key table ≡ Ok value → P value
   optional_holds default holds h = go (get_member key table) h
     where
-      go : (o : Option Data) → option_map_or (λ item. ok_or (read item) (WrongType (place ++ key))) o (Ok default) ≡ Ok value → P value
+      go : (o : Option Data) → option_map_or (λ item. ok_or (read item) (WrongType (file_index ++ key))) o (Ok default) ≡ Ok value → P value
       go None e = subst P (ok_same default value e) holds
-      go (Some item) e = got (WrongType (place ++ key)) item (read item) refl e
+      go (Some item) e = got (WrongType (file_index ++ key)) item (read item) refl e
 
-  required_holds : required read place key table ≡ Ok value → P value
+  required_holds : required read file_index key table ≡ Ok value → P value
   required_holds h = go (get_member key table) h
     where
-      go : (o : Option Data) → option_map_or (λ item. ok_or (read item) (WrongType (place ++ key))) o (Err (MissingKey (place ++ key))) ≡ Ok value → P value
+      go : (o : Option Data) → option_map_or (λ item. ok_or (read item) (WrongType (file_index ++ key))) o (Err (MissingKey (file_index ++ key))) ≡ Ok value → P value
       go None e = absurd cc
-      go (Some item) e = got (WrongType (place ++ key)) item (read item) refl e
+      go (Some item) e = got (WrongType (file_index ++ key)) item (read item) refl e
 
 -- ## Files
 

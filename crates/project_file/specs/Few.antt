@@ -11,7 +11,7 @@ use Rattle.base.specs.declared.limits.TheConstants.{FILE_LIMIT}
 use Rattle.base.specs.Names.{is_same_name}
 use Rattle.project_file.specs.Csv.{then_read}
 use Rattle.project_file.specs.Paths.{matches_path}
-use Rattle.project_file.specs.Toml.{array_of, is_among, library_in, required, optional, text_of, texts_of, words_of, named_file, place_of, pairs_of, files_of}
+use Rattle.project_file.specs.Toml.{array_of, is_among, library_in, required, optional, text_of, texts_of, words_of, named_file, index_of_file, pairs_of, files_of}
 use Rattle.project_file.specs.Libraries.{alone, libraries_of}
 
 -- a project, or nothing where it has more files than may be
@@ -89,8 +89,8 @@ abbrev pub checked_pair : List ProjectFile → Members → Result (Unit {0}) Pro
 checked_pair files table =
     then_read (named_file (codes "library") (codes "path") table) (λ user.
     then_read (named_file (codes "on_library") (codes "on_path") table) (λ used.
-    then_read (faults_of (place_of files user)) (λ known.
-    faults_of (place_of files used))))
+    then_read (faults_of (index_of_file files user)) (λ known.
+    faults_of (index_of_file files used))))
 
 -- the first fault of the tables of dependencies, whose pairs aren't kept
 abbrev pub checked_links : List ProjectFile → Members → Result (Unit {0}) ProjectFault

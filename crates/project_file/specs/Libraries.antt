@@ -1,7 +1,7 @@
 -- What is known of the libraries and the names of files that were read so far.
 use Rattle.std.specs.Prelude.{◌≡◌, ℕ, ◌<◌, ◌≤◌, Bool, true, false, not, ◌&&◌, List, [], ◌∷◌, ◌++◌, length, map, filter, All, slice_index_or, Result, Ok, Err}
 use Rattle.std.specs.List.{list_any}
-use Rattle.base_numbering.specs.Numbers.{NumbersBelow, IsAdded}
+use Rattle.base_collections.specs.Numbers.{NumbersBelow, IsAdded}
 use Rattle.toml.specs.Data.{Members}
 use Rattle.base.specs.declared.file.FileName.{FileName}
 use Rattle.base.specs.declared.memory.OrMemory.{OrMemory}
@@ -27,27 +27,27 @@ AddsLibrary old new said (Err (memory.Fault fault)) = said ≡ Err fault
 
 -- the names at these indices
 abbrev pub texts_at : List (List ℕ) → List ℕ → List (List ℕ)
-texts_at names places = map (λ place. slice_index_or names place []) places
+texts_at names indices = map (λ file_index. slice_index_or names file_index []) indices
 
--- places of names, each at most once
-pub record ArePlaces (names : List (List ℕ)) (places : NumbersBelow) : Type 0 where
-  pub size : length names ≤ places.size
-  pub each : All (λ place. place < length names) places.numbers
+-- indices of names, each at most once
+pub record AreIndices (names : List (List ℕ)) (indices : NumbersBelow) : Type 0 where
+  pub size : length names ≤ indices.size
+  pub each : All (λ file_index. file_index < length names) indices.numbers
 
--- a place is added where it is wanted
+-- an index is added where it is wanted
 abbrev pub AddsWanted : Bool → ℕ → NumbersBelow → NumbersBelow → Type 0
-AddsWanted true place old new = (is_new : Bool) × IsAdded is_new place old new
-AddsWanted false place old new = new ≡ old
+AddsWanted true file_index old new = (is_new : Bool) × IsAdded is_new file_index old new
+AddsWanted false file_index old new = new ≡ old
 
 -- the names that a pattern matches come after those that were found, where they aren't among these
 pub record TakesMatching (names : List (List ℕ)) (pattern : List ℕ) (old new : NumbersBelow) (any : Bool) : Type 0 where
   pub some : any ≡ list_any (matches_path pattern) names
-  pub places : ArePlaces names new
+  pub indices : AreIndices names new
   pub found : texts_at names new.numbers ≡ texts_at names old.numbers ++ filter (λ name. matches_path pattern name && not (is_among (texts_at names old.numbers) name)) names
 
 -- the names that patterns match come after those that were found
 abbrev pub TakesNames : List (List ℕ) → List (List ℕ) → NumbersBelow → NumbersBelow → Result (Unit {0}) (OrMemory ProjectFault) → Type 0
-TakesNames names patterns old new (Ok done) = (matching_names names (texts_at names old.numbers) patterns ≡ Ok (texts_at names new.numbers)) × ArePlaces names new
+TakesNames names patterns old new (Ok done) = (matching_names names (texts_at names old.numbers) patterns ≡ Ok (texts_at names new.numbers)) × AreIndices names new
 TakesNames names patterns old new (Err memory.NoMemory) = Unit {0}
 TakesNames names patterns old new (Err (memory.Fault fault)) = matching_names names (texts_at names old.numbers) patterns ≡ Err fault
 

@@ -4,7 +4,7 @@ use Rattle.base.specs.declared.file.FileName.{FileName}
 use Rattle.base.specs.declared.memory.OrMemory.{OrMemory}
 use Rattle.base.specs.declared.memory.OrMemory.TheVariants as memory
 use Rattle.base.specs.declared.project.ProjectFault.{ProjectFault}
-use Rattle.base_name_set.specs.Names.{Holds}
+use Rattle.base_collections.specs.Names.{Holds}
 
 -- what a line adds, and the set then holds
 abbrev pub AddsName : List FileName → List FileName → Result FileName ProjectFault → Result FileName (OrMemory ProjectFault) → Type 0

@@ -1,4 +1,4 @@
--- Places of files in a project, by an index of their names.
+-- Indices of files in a project, by an index of their names.
 use Rattle.std.specs.Prelude.{◌≡◌, ◌≢◌, List, map, AllPairs}
 use Rattle.base.specs.declared.file.FileName.{FileName}
 use Rattle.base.specs.declared.project.ProjectFile.{ProjectFile}

@@ -66,15 +66,15 @@ words_of least value = option_and_then (few least) (texts_of word_in value)
 -- The value of a key of a table, or that it is of another form, or else what is said where the key is missing. Faults
 -- name the key after the words for its table.
 abbrev pub value_or : {T : Type 0} → Result T ProjectFault → (Data → Option T) → List ℕ → List ℕ → Members → Result T ProjectFault
-value_or missing read place key table = option_map_or (λ value. ok_or (read value) (WrongType (place ++ key))) (get_member key table) missing
+value_or missing read file_index key table = option_map_or (λ value. ok_or (read value) (WrongType (file_index ++ key))) (get_member key table) missing
 
--- the value of a key, read by `read`; a key that is missing is a fault, which names it after `place`
+-- the value of a key, read by `read`; a key that is missing is a fault, which names it after `file_index`
 abbrev pub required : {T : Type 0} → (Data → Option T) → List ℕ → List ℕ → Members → Result T ProjectFault
-required read place key table = value_or (Err (MissingKey (place ++ key))) read place key table
+required read file_index key table = value_or (Err (MissingKey (file_index ++ key))) read file_index key table
 
 -- the value of a key, read by `read`; a default where the key is missing
 abbrev pub optional : {T : Type 0} → (Data → Option T) → T → List ℕ → List ℕ → Members → Result T ProjectFault
-optional read default place key table = value_or (Ok default) read place key table
+optional read default file_index key table = value_or (Ok default) read file_index key table
 
 -- ## Libraries
 
@@ -119,9 +119,9 @@ files_of names compiler before (table ∷ tables) =
 
 -- ## Dependencies
 
--- the place of a file in the project
-unfoldable pub place_of : List ProjectFile → FileName → Result ℕ ProjectFault
-place_of files name = ok_or (position (λ file. is_same_name file.name name) files) (UnknownDependency name)
+-- the index of a file in the project
+unfoldable pub index_of_file : List ProjectFile → FileName → Result ℕ ProjectFault
+index_of_file files name = ok_or (position (λ file. is_same_name file.name name) files) (UnknownDependency name)
 
 -- the file that two keys of a dependency name
 abbrev pub named_file : List ℕ → List ℕ → Members → Result FileName ProjectFault
@@ -135,8 +135,8 @@ unfoldable pub pair_of : List ProjectFile → Members → Result Pair ProjectFau
 pair_of files table =
     then_read (named_file (codes "library") (codes "path") table) (λ user.
     then_read (named_file (codes "on_library") (codes "on_path") table) (λ used.
-    then_read (place_of files user) (λ user.
-    then_read (place_of files used) (λ used. Ok (record { user = user; used = used })))))
+    then_read (index_of_file files user) (λ user.
+    then_read (index_of_file files used) (λ used. Ok (record { user = user; used = used })))))
 
 -- the pairs of files that tables of dependencies name, or the first fault
 unfoldable pub pairs_of : List ProjectFile → List Members → Result (List Pair) ProjectFault

@@ -8,7 +8,7 @@ ghost use Rattle.std.specs.Str.Lines.{lines};
 ghost use Rattle.project_file.specs.Csv.{is_library, is_library_byte, is_path, is_path_byte, is_component, has_components, has_path_bytes, begins_with_letter, is_line_blank, without_blanks, trim, names_file, csv_file_of, name_fault, added_by, csv_files, csv_project, listed_file, listed_project};
 ghost use Rattle.base.specs.declared.file.FileName.{FileName};
 ghost use Rattle.base.specs.Projects.{IsProject};
-ghost use Rattle.base_name_set.specs.Names.{Holds};
+ghost use Rattle.base_collections.specs.Names.{Holds};
 ghost use Rattle.project_file.specs.NewNames.{AddsName, Admits};
 ghost use Rattle.project_file.specs.Steps.{TakesLine, ReadsStep};
 
@@ -17,7 +17,7 @@ use base::{
     FileList, FileName, LIBRARY_LIMIT, NoMemory, OrMemory, PATH_LIMIT, PairList, Project,
     ProjectFault, ProjectFile, ProjectFileList, Text, TextList,
 };
-use base_name_set::NameSet;
+use base_collections::NameSet;
 use std::alloc::Global;
 
 /// Whether two texts have the same bytes.
@@ -168,17 +168,17 @@ fn trim(bytes: &[u8]) -> &[u8]
 }
 
 /// How often a byte stands in a line.
-fn count_of(bytes: &[u8], mark: u8) -> usize
-    ensures { result ≡ count_by (λ byte. byte == mark) bytes.now }
+fn count_of(bytes: &[u8], delimiter: u8) -> usize
+    ensures { result ≡ count_by (λ byte. byte == delimiter) bytes.now }
 {
-    bytes.iter().filter(|byte| **byte == mark).count()
+    bytes.iter().filter(|byte| **byte == delimiter).count()
 }
 
 /// Whether a byte stands in a line.
-fn has_byte(bytes: &[u8], mark: u8) -> bool
-    ensures { result ≡ list_any (λ byte. byte == mark) bytes.now }
+fn has_byte(bytes: &[u8], delimiter: u8) -> bool
+    ensures { result ≡ list_any (λ byte. byte == delimiter) bytes.now }
 {
-    bytes.iter().any(|byte| *byte == mark)
+    bytes.iter().any(|byte| *byte == delimiter)
 }
 
 /// Whether a line names a file, by its two sides.

@@ -24,37 +24,37 @@ fn value_at<'a>(table: &'a Table, key: &str) -> Option<&'a Value>
 }
 
 /// A key after the words for its table.
-fn key_name(alloc: Global, place: &str, key: &str) -> Result<Text, NoMemory>
-    ensures { IfOk result (λ name. name ≡ place.now ++ key.now) }
+fn key_name(alloc: Global, table_name: &str, key: &str) -> Result<Text, NoMemory>
+    ensures { IfOk result (λ name. name ≡ table_name.now ++ key.now) }
 {
-    let mut name = Vec::from_slice(alloc, place.as_bytes())?;
+    let mut name = Vec::from_slice(alloc, table_name.as_bytes())?;
     name.extend_from_slice(key.as_bytes())?;
     Ok(Text::from_vec(name))
 }
 
 /// What is read of the value of a key, or that it is of another form.
-fn known<T: Drop>(
+fn value_of_key<T: Drop>(
     alloc: Global,
-    place: &str,
+    table_name: &str,
     key: &str,
     read: Option<T>,
 ) -> Result<T, OrMemory<ProjectFault>>
-    ensures { ReadsStep (ok_or read (WrongType (place.now ++ key.now))) result }
+    ensures { ReadsStep (ok_or read (WrongType (table_name.now ++ key.now))) result }
 {
     match read {
         Some(read) => Ok(read),
         None => Err(OrMemory::Fault(ProjectFault::WrongType {
-            key: key_name(alloc, place, key)?,
+            key: key_name(alloc, table_name, key)?,
         })),
     }
 }
 
-/// The fault of a key that a table lacks; `place` says which table.
-fn missing_key(alloc: Global, place: &str, key: &str) -> Result<ProjectFault, NoMemory>
-    ensures { IfOk result (λ fault. fault ≡ MissingKey (place.now ++ key.now)) }
+/// The fault of a key that a table lacks; `table_name` says which table.
+fn missing_key(alloc: Global, table_name: &str, key: &str) -> Result<ProjectFault, NoMemory>
+    ensures { IfOk result (λ fault. fault ≡ MissingKey (table_name.now ++ key.now)) }
 {
     Ok(ProjectFault::MissingKey {
-        key: key_name(alloc, place, key)?,
+        key: key_name(alloc, table_name, key)?,
     })
 }
 
@@ -62,16 +62,16 @@ fn missing_key(alloc: Global, place: &str, key: &str) -> Result<ProjectFault, No
 pub fn text_at(
     alloc: Global,
     form: Form,
-    place: &str,
+    table_name: &str,
     key: &str,
     table: &Table,
 ) -> Result<Text, OrMemory<ProjectFault>>
     ensures { ReadsStep
-        (required (text_of (form_of form)) place.now key.now (table_view table.now)) result }
+        (required (text_of (form_of form)) table_name.now key.now (table_view table.now)) result }
 {
     match value_at(table, key) {
-        Some(value) => known(alloc, place, key, text_of(alloc, form, value)?),
-        None => Err(OrMemory::Fault(missing_key(alloc, place, key)?)),
+        Some(value) => value_of_key(alloc, table_name, key, text_of(alloc, form, value)?),
+        None => Err(OrMemory::Fault(missing_key(alloc, table_name, key)?)),
     }
 }
 
@@ -79,16 +79,16 @@ pub fn text_at(
 pub fn texts_at(
     alloc: Global,
     form: Form,
-    place: &str,
+    table_name: &str,
     key: &str,
     table: &Table,
 ) -> Result<TextList, OrMemory<ProjectFault>>
     ensures { ReadsStep
-        (required (texts_of (form_of form)) place.now key.now (table_view table.now)) result }
+        (required (texts_of (form_of form)) table_name.now key.now (table_view table.now)) result }
 {
     match value_at(table, key) {
-        Some(value) => known(alloc, place, key, texts_of(alloc, form, value)?),
-        None => Err(OrMemory::Fault(missing_key(alloc, place, key)?)),
+        Some(value) => value_of_key(alloc, table_name, key, texts_of(alloc, form, value)?),
+        None => Err(OrMemory::Fault(missing_key(alloc, table_name, key)?)),
     }
 }
 
@@ -102,7 +102,7 @@ pub fn libraries_at(
         (optional (texts_of library_in) [] [] key.now (table_view table.now)) result }
 {
     match value_at(table, key) {
-        Some(value) => known(alloc, "", key, texts_of(alloc, Form::Library, value)?),
+        Some(value) => value_of_key(alloc, "", key, texts_of(alloc, Form::Library, value)?),
         None => Ok(TextList::new(alloc)),
     }
 }
@@ -119,7 +119,7 @@ pub fn command_at(
         result }
 {
     match value_at(table, key) {
-        Some(value) => known(alloc, "", key, words_of(alloc, 1, value)?),
+        Some(value) => value_of_key(alloc, "", key, words_of(alloc, 1, value)?),
         None => Ok(words(alloc, b"@self", word)?),
     }
 }
@@ -127,15 +127,15 @@ pub fn command_at(
 /// The words at a key; none where it is missing.
 pub fn words_at(
     alloc: Global,
-    place: &str,
+    table_name: &str,
     key: &str,
     table: &Table,
 ) -> Result<TextList, OrMemory<ProjectFault>>
     ensures { ReadsStep
-        (optional (words_of 0) [] place.now key.now (table_view table.now)) result }
+        (optional (words_of 0) [] table_name.now key.now (table_view table.now)) result }
 {
     match value_at(table, key) {
-        Some(value) => known(alloc, place, key, words_of(alloc, 0, value)?),
+        Some(value) => value_of_key(alloc, table_name, key, words_of(alloc, 0, value)?),
         None => Ok(TextList::new(alloc)),
     }
 }
@@ -145,7 +145,7 @@ pub fn flag_at(alloc: Global, key: &str, table: &Table) -> Result<bool, OrMemory
     ensures { ReadsStep (optional as_bool false [] key.now (table_view table.now)) result }
 {
     match value_at(table, key) {
-        Some(value) => known(alloc, "", key, value.as_bool()),
+        Some(value) => value_of_key(alloc, "", key, value.as_bool()),
         None => Ok(false),
     }
 }

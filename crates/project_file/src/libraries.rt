@@ -1,12 +1,12 @@
 //! The libraries of a TOML table, and their files.
 
 ghost use Rattle.std.specs.Prelude.{◌≡◌, ◌≢◌, ◌<◌, ◌≤◌, ◌+◌, ◌++◌, [], ◌∷◌, List, ℕ, Ok, Some, nat_le, length, map, AllPairs, All, IfOk, IfErr, OnOk};
-ghost use Rattle.base_numbering.specs.Numbers.{IsAdded};
+ghost use Rattle.base_collections.specs.Numbers.{IsAdded};
 ghost use Rattle.toml.specs.View.{table_view};
 ghost use Rattle.project_file.specs.Toml.{new_library, library_after, matching_names, file_in, library_files, files_of};
 ghost use Rattle.project_file.specs.Csv.{then_read};
 ghost use Rattle.project_file.specs.Steps.{ReadsStep};
-ghost use Rattle.project_file.specs.Libraries.{alone, libraries_of, AddsLibrary, texts_at, ArePlaces, AddsWanted, TakesMatching, TakesNames, FailsTable};
+ghost use Rattle.project_file.specs.Libraries.{alone, libraries_of, AddsLibrary, texts_at, AreIndices, AddsWanted, TakesMatching, TakesNames, FailsTable};
 ghost use Rattle.project_file.specs.Few.{few_files, few_with, AddsTable, AreLibraries};
 
 use crate::checks::check_library;
@@ -18,7 +18,7 @@ use base::{
     FILE_LIMIT, FileName, NoMemory, OrMemory, ProjectFault, ProjectFile, ProjectFileList, Text,
     TextList,
 };
-use base_numbering::{NumberSet, Numbered};
+use base_collections::{NumberSet, Numbered};
 use std::alloc::Global;
 use toml::Table;
 
@@ -71,15 +71,15 @@ fn library_after(
     add_library(alloc, before, library)
 }
 
-/// Adds a place where it is wanted.
-fn add_wanted(found: &mut NumberSet, place: usize, wanted: bool) -> Result<(), NoMemory>
-    requires { place < found.old.size }
-    ensures { OnOk result (AddsWanted wanted place found.old found.new) }
+/// Adds an index where it is wanted.
+fn add_wanted(found: &mut NumberSet, file_index: usize, wanted: bool) -> Result<(), NoMemory>
+    requires { file_index < found.old.size }
+    ensures { OnOk result (AddsWanted wanted file_index found.old found.new) }
 {
     if !wanted {
         return Ok(());
     }
-    found.add(place)?;
+    found.add(file_index)?;
     Ok(())
 }
 
@@ -91,7 +91,7 @@ fn take_matching(
     found: &mut NumberSet,
 ) -> Result<bool, NoMemory>
     requires distinct { AllPairs (λ name other. name ≢ other) names.now }
-    requires places { ArePlaces names.now found.old }
+    requires indices { AreIndices names.now found.old }
     ensures { IfOk result (TakesMatching names.now pattern.now found.old found.new) }
 {
     let parts = parts_of(alloc, pattern)?;
@@ -113,7 +113,7 @@ fn take_names(
     found: &mut NumberSet,
 ) -> Result<(), OrMemory<ProjectFault>>
     requires distinct { AllPairs (λ name other. name ≢ other) names.now }
-    requires places { ArePlaces names.now found.old }
+    requires indices { AreIndices names.now found.old }
     ensures { TakesNames names.now patterns.now found.old found.new result }
 {
     for i in 0..patterns.len() {
@@ -126,7 +126,7 @@ fn take_names(
 }
 
 /// The words of one command, and then those of another.
-fn joined(alloc: Global, first: &[Text], second: &[Text]) -> Result<TextList, NoMemory>
+fn join_commands(alloc: Global, first: &[Text], second: &[Text]) -> Result<TextList, NoMemory>
     ensures { IfOk result (λ words. words ≡ first.now ++ second.now) }
 {
     let mut words = TextList::new(alloc);
@@ -153,25 +153,25 @@ fn file_in(
             library: library.copy(alloc)?,
             path: path.copy(alloc)?,
         },
-        command: joined(alloc, command, &[])?,
+        command: join_commands(alloc, command, &[])?,
     })
 }
 
-/// Adds the files of a library at places of names.
+/// Adds the files of a library at indices of names.
 fn add_files(
     alloc: Global,
     files: &mut ProjectFileList,
     library: &Text,
     command: &[Text],
     names: &[Text],
-    places: &[usize],
+    indices: &[usize],
 ) -> Result<(), NoMemory>
-    requires { All (λ place. place < length names.now) places.now }
+    requires { All (λ file_index. file_index < length names.now) indices.now }
     ensures { OnOk result (files.new ≡
-        files.old ++ map (file_in library.now command.now) (texts_at names.now places.now)) }
+        files.old ++ map (file_in library.now command.now) (texts_at names.now indices.now)) }
 {
-    for i in 0..places.len() {
-        files.push(file_in(alloc, library, command, &names[places[i]])?)?;
+    for i in 0..indices.len() {
+        files.push(file_in(alloc, library, command, &names[indices[i]])?)?;
     }
     Ok(())
 }
@@ -183,24 +183,24 @@ fn has_room(count: usize, more: usize) -> bool
     more <= FILE_LIMIT && count <= FILE_LIMIT - more
 }
 
-/// The files so far with those of a library at places of names, or nothing where they are more than may be.
+/// The files so far with those of a library at indices of names, or nothing where they are more than may be.
 fn add_few(
     alloc: Global,
     files: ProjectFileList,
     library: &Text,
     command: &[Text],
     names: &[Text],
-    places: &[usize],
+    indices: &[usize],
 ) -> Result<Option<ProjectFileList>, NoMemory>
-    requires { All (λ place. place < length names.now) places.now }
+    requires { All (λ file_index. file_index < length names.now) indices.now }
     ensures { IfOk result (λ kept. kept ≡ few_with (Some files)
-        (map (file_in library.now command.now) (texts_at names.now places.now))) }
+        (map (file_in library.now command.now) (texts_at names.now indices.now))) }
 {
-    if !has_room(files.as_slice().len(), places.len()) {
+    if !has_room(files.as_slice().len(), indices.len()) {
         return Ok(None);
     }
     let mut files = files;
-    add_files(alloc, &mut files, library, command, names, places)?;
+    add_files(alloc, &mut files, library, command, names, indices)?;
     Ok(Some(files))
 }
 
@@ -226,7 +226,7 @@ fn add_library_files(
     found.clear();
     take_names(alloc, names, patterns.as_slice(), found)?;
     let options = words_at(alloc, "library.", "options", table)?;
-    let command = joined(alloc, compiler, options.as_slice())?;
+    let command = join_commands(alloc, compiler, options.as_slice())?;
     let kept = add_few(
         alloc,
         files,

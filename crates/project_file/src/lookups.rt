@@ -7,7 +7,7 @@ ghost use Rattle.base.specs.declared.project.ProjectFile.{ProjectFile as project
 ghost use Rattle.project_file.specs.Paths.{matches_path};
 ghost use Rattle.project_file.specs.Steps.{ReadsStep};
 ghost use Rattle.project_file.specs.Libraries.{alone};
-ghost use Rattle.project_file.specs.Toml.{files_of, place_of, pairs_of};
+ghost use Rattle.project_file.specs.Toml.{files_of, index_of_file, pairs_of};
 ghost use Rattle.project_file.specs.Few.{among_files, checked_pair, faults_of, has_path, is_wanted, AreLibraries, IsLookup};
 
 use crate::keys::texts_at;
@@ -16,7 +16,7 @@ use crate::pairs::named_file;
 use crate::paths::{matches_path, parts_of};
 use crate::values::Form;
 use base::{FileName, NoMemory, OrMemory, ProjectFault, Text};
-use base_numbering::Numbered;
+use base_collections::Numbered;
 use std::alloc::Global;
 use toml::Table;
 
@@ -75,7 +75,7 @@ fn has_path(
     let key = alone(alloc, path)?;
     match paths.number(&key) {
         None => Ok(false),
-        Some(_place) => is_wanted(alloc, path, table),
+        Some(_index) => is_wanted(alloc, path, table),
     }
 }
 
@@ -95,14 +95,14 @@ fn has_file(
 {
     let library = alone(alloc, &name.library)?;
     match libraries.number(&library) {
-        Some(place) => has_path(alloc, paths, &name.path, tables[place]),
+        Some(file_index) => has_path(alloc, paths, &name.path, tables[file_index]),
         None => Ok(false),
     }
 }
 
 /// What is wrong with the name of a file.
-#[tactic(auto, using(crate::proofs::FewFiles::place_there, crate::proofs::FewFiles::no_place_there))]
-fn check_place(
+#[tactic(auto, using(crate::proofs::FewFiles::index_there, crate::proofs::FewFiles::no_index_there))]
+fn check_index(
     alloc: Global,
     tables: &[&Table],
     libraries: &Numbered<FileName>,
@@ -113,7 +113,7 @@ fn check_place(
     ensures { (names compiler : List (List ℕ)) (files : List project_file) →
         IsLookup names compiler (map (λ t. table_view t.now) tables.now)
         libraries.now.keys paths.now.keys files →
-        ReadsStep (faults_of (place_of files name)) result }
+        ReadsStep (faults_of (index_of_file files name)) result }
 {
     if has_file(alloc, tables, libraries, paths, &name)? {
         return Ok(());
@@ -138,8 +138,8 @@ fn check_pair(
 {
     let user = named_file(alloc, "library", "path", table)?;
     let used = named_file(alloc, "on_library", "on_path", table)?;
-    check_place(alloc, tables, libraries, paths, user)?;
-    check_place(alloc, tables, libraries, paths, used)
+    check_index(alloc, tables, libraries, paths, user)?;
+    check_index(alloc, tables, libraries, paths, used)
 }
 
 /// What is wrong with the dependencies of a project whose files aren't kept.

@@ -3,14 +3,14 @@
 ghost use Rattle.std.specs.Prelude.{◌≡◌, ◌≢◌, List, map, AllPairs, IfOk};
 ghost use Rattle.toml.specs.View.{table_view};
 ghost use Rattle.base.specs.declared.project.ProjectFile.{ProjectFile as project_file};
-ghost use Rattle.project_file.specs.Toml.{place_of, named_file, pair_of, pairs_of};
+ghost use Rattle.project_file.specs.Toml.{index_of_file, named_file, pair_of, pairs_of};
 ghost use Rattle.project_file.specs.Steps.{ReadsStep};
 ghost use Rattle.project_file.specs.Pairs.{names_of, IsIndexOf};
 
 use crate::keys::text_at;
 use crate::values::Form;
 use base::{FileName, NoMemory, OrMemory, Pair, PairList, ProjectFault, ProjectFile};
-use base_numbering::Numbered;
+use base_collections::Numbered;
 use std::alloc::Global;
 use toml::Table;
 
@@ -27,14 +27,14 @@ fn index_of(alloc: Global, files: &[ProjectFile]) -> Result<Numbered<FileName>, 
     Ok(index)
 }
 
-/// The place of a file.
-#[tactic(auto, using(crate::proofs::PairSteps::place_is, crate::proofs::PairSteps::no_place))]
-fn place_of(index: &Numbered<FileName>, name: FileName) -> Result<u64, OrMemory<ProjectFault>>
+/// The index of a file.
+#[tactic(auto, using(crate::proofs::PairSteps::index_is, crate::proofs::PairSteps::no_index))]
+fn index_of_file(index: &Numbered<FileName>, name: FileName) -> Result<u64, OrMemory<ProjectFault>>
     ensures { (files : List project_file) → IsIndexOf files index.now.keys →
-        ReadsStep (place_of files name) result }
+        ReadsStep (index_of_file files name) result }
 {
     match index.number(&name) {
-        Some(place) => Ok(place as u64),
+        Some(file_index) => Ok(file_index as u64),
         None => Err(OrMemory::Fault(ProjectFault::UnknownDependency { name })),
     }
 }
@@ -66,8 +66,8 @@ fn pair_of(
 {
     let user = named_file(alloc, "library", "path", table)?;
     let used = named_file(alloc, "on_library", "on_path", table)?;
-    let user = place_of(index, user)?;
-    let used = place_of(index, used)?;
+    let user = index_of_file(index, user)?;
+    let used = index_of_file(index, used)?;
     Ok(Pair { user, used })
 }
 

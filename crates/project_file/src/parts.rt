@@ -1,37 +1,37 @@
-//! The parts of bytes before and after a mark, and the lines of bytes.
+//! The parts of bytes before and after a delimiter, and the lines of bytes.
 
 ghost use Rattle.std.specs.Prelude.{◌≡◌, ◌==◌, ◌+◌, ◌<◌, [], ◌∷◌, ◌++◌, length, MatchOption, IfSome, position};
 ghost use Rattle.std.specs.List.{slice_split, before_first, after_first};
 ghost use Rattle.std.specs.Str.Lines.{lines, strip_carriage_return};
 
 /// The index of the first of a byte.
-fn position_of(bytes: &[u8], mark: u8) -> Option<usize>
-    ensures { result ≡ position (λ byte. byte == mark) bytes.now }
+fn position_of(bytes: &[u8], delimiter: u8) -> Option<usize>
+    ensures { result ≡ position (λ byte. byte == delimiter) bytes.now }
 {
-    bytes.iter().position(|byte| *byte == mark)
+    bytes.iter().position(|byte| *byte == delimiter)
 }
 
 /// The bytes before the first of a byte, and those after it; `None` where that byte doesn't occur.
-pub fn cut_at(bytes: &[u8], mark: u8) -> Option<(&[u8], &[u8])>
+pub fn cut_at(bytes: &[u8], delimiter: u8) -> Option<(&[u8], &[u8])>
     ensures parts { MatchOption result
-        (slice_split (λ byte. byte == mark) bytes.now ≡ bytes.now ∷ [])
-        (λ cut. slice_split (λ byte. byte == mark) bytes.now ≡
-        cut.0.now ∷ slice_split (λ byte. byte == mark) cut.1.now) }
+        (slice_split (λ byte. byte == delimiter) bytes.now ≡ bytes.now ∷ [])
+        (λ cut. slice_split (λ byte. byte == delimiter) bytes.now ≡
+        cut.0.now ∷ slice_split (λ byte. byte == delimiter) cut.1.now) }
     ensures less { IfSome result
         (λ cut. length cut.0.now + length cut.1.now + 1 ≡ length bytes.now) }
 {
-    match position_of(bytes, mark) {
+    match position_of(bytes, delimiter) {
         None => None,
         Some(at) => Some((&bytes[..at], &bytes[at + 1..])),
     }
 }
 
 /// The bytes before the first of a byte, and those after it; all and none where that byte doesn't occur.
-pub fn sides(bytes: &[u8], mark: u8) -> (&[u8], &[u8])
-    ensures before { result.0.now ≡ before_first (λ byte. byte == mark) bytes.now }
-    ensures after { result.1.now ≡ after_first (λ byte. byte == mark) bytes.now }
+pub fn sides(bytes: &[u8], delimiter: u8) -> (&[u8], &[u8])
+    ensures before { result.0.now ≡ before_first (λ byte. byte == delimiter) bytes.now }
+    ensures after { result.1.now ≡ after_first (λ byte. byte == delimiter) bytes.now }
 {
-    match position_of(bytes, mark) {
+    match position_of(bytes, delimiter) {
         None => (bytes, &bytes[bytes.len()..]),
         Some(at) => (&bytes[..at], &bytes[at + 1..]),
     }

@@ -1,8 +1,8 @@
 //! Whether a pattern of files matches a path.
 
 ghost use Rattle.std.specs.Prelude.{◌≡◌, ◌+◌, ◌≤◌, ◌&&◌, ◌||◌, Bool, ℕ, List, [], length, map, IfOk};
-ghost use Rattle.test_select.specs.Segments.{is_match};
-ghost use Rattle.test_select.specs.Fits.{first_is};
+ghost use Rattle.testbench_select.specs.Segments.{is_match};
+ghost use Rattle.testbench_select.specs.Fits.{first_is};
 ghost use Rattle.project_file.specs.Paths.{components, is_any_components, matches_path};
 ghost use Rattle.project_file.specs.PathRows.{part_of, texts_seen, fits_parts, IsRow, any_end};
 
@@ -10,7 +10,7 @@ use crate::csv::is_same;
 use crate::parts::cut_at;
 use base::{Items, NoMemory};
 use std::alloc::Global;
-use test_select::{Pattern, matches, read_pattern};
+use testbench_select::{Pattern, matches, read_pattern};
 
 /// A part of a pattern: it stands for any number of components, or for one that its pattern matches.
 #[derive(Drop)]

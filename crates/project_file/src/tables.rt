@@ -20,7 +20,7 @@ use crate::pairs::pairs_of;
 use base::{
     FileName, OrMemory, PATH_LIMIT, Project, ProjectFault, ProjectFileList, Text, TextList,
 };
-use base_numbering::Numbered;
+use base_collections::Numbered;
 use std::alloc::Global;
 use toml::Table;
 

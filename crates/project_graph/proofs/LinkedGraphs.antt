@@ -18,12 +18,12 @@ use Rattle.base.specs.Graphs.{IsEntryAt, IsGraph}
 use Rattle.base.specs.Projects.{IsProject}
 use Rattle.base.specs.PresentGraph.{below}
 use Rattle.base.proofs.GraphPrefixes.{IsGraph-prefix}
-use Rattle.base_position_set.specs.declared.set.PositionSet.{PositionSet}
-use Rattle.base_position_set.specs.Positions.{has}
-use Rattle.order_spec.specs.BuildOrder.{AreEdges, IsBuildOrder}
-use Rattle.order_spec.specs.LinkedGraph.{reaches, closure_of, linked_entry, linked, FitTexts}
-use Rattle.order_spec.proofs.Finds.{Contains-later, Contains-first, in_below, below_all, below_rises, filter_below}
-use Rattle.order_spec.proofs.Reaching.{reached_before, reaches_on}
+use Rattle.base_collections.specs.declared.set.PositionSet.{PositionSet}
+use Rattle.base_collections.specs.Positions.{has}
+use Rattle.order.specs.BuildOrder.{AreEdges, IsBuildOrder}
+use Rattle.order.specs.LinkedGraph.{reaches, closure_of, linked_entry, linked, FitTexts}
+use Rattle.order.proofs.Finds.{Contains-later, Contains-first, in_below, below_all, below_rises, filter_below}
+use Rattle.order.proofs.Reaching.{reached_before, reaches_on}
 use Rattle.project_graph.specs.Rows.{row_has}
 use Rattle.project_graph.proofs.RowSteps.{row_at}
 
@@ -76,15 +76,15 @@ module _ (project : Project) (texts : List (List ℕ)) (edges : List (List ℕ))
   abbrev pub whole : List Entry
   whole = linked project.files texts edges order
 
-  -- the file at a place of the order
+  -- the file at a rank of the order
   abbrev pub file_at : ℕ → ProjectFile
-  file_at place = get_or project.files (get_or order place 0) no_file
+  file_at rank = get_or project.files (get_or order rank 0) no_file
 
   abbrev pub entry_at : ℕ → Entry
-  entry_at place = linked_entry edges order texts (get_or order place 0) (file_at place)
+  entry_at rank = linked_entry edges order texts (get_or order rank 0) (file_at rank)
 
-  pub file_within : (place : ℕ) → place < length order → get_or order place 0 < length project.files
-  file_within place lt = omega (arith, is.within place 0 lt)
+  pub file_within : (rank : ℕ) → rank < length order → get_or order rank 0 < length project.files
+  file_within rank lt = omega (arith, is.within rank 0 lt)
 
   linked_is : whole ≡ map (λ at. linked_entry edges order texts at (get_or project.files at no_file)) order
   unfolding linked
@@ -93,36 +93,36 @@ module _ (project : Project) (texts : List (List ℕ)) (edges : List (List ℕ))
   pub length-linked : length whole ≡ length order
   length-linked = ap (λ (es : List Entry). length es) linked_is ∙ length-map order (λ at. linked_entry edges order texts at (get_or project.files at no_file))
 
-  pub get_or-linked : (place : ℕ) (d : Entry) → place < length order → get_or whole place d ≡ entry_at place
-  get_or-linked place d lt = ap (λ (es : List Entry). get_or es place d) linked_is ∙ get_or-map (λ at. linked_entry edges order texts at (get_or project.files at no_file)) order place 0 d lt
+  pub get_or-linked : (rank : ℕ) (d : Entry) → rank < length order → get_or whole rank d ≡ entry_at rank
+  get_or-linked rank d lt = ap (λ (es : List Entry). get_or es rank d) linked_is ∙ get_or-map (λ at. linked_entry edges order texts at (get_or project.files at no_file)) order rank 0 d lt
 
   -- what a file has in its closure, it reaches; and what it reaches is there
-  in_closure : (place at : ℕ) → at < length order → reaches edges (get_or order place 0) (get_or order at 0) ≡ true → Contains (closure_of edges order (get_or order place 0)) at
-  in_closure place at low reached = kept (λ position. reaches edges (get_or order place 0) (get_or order position 0)) (below (length order)) at (in_below (length order) at low) reached
+  in_closure : (rank at : ℕ) → at < length order → reaches edges (get_or order rank 0) (get_or order at 0) ≡ true → Contains (closure_of edges order (get_or order rank 0)) at
+  in_closure rank at low reached = kept (λ position. reaches edges (get_or order rank 0) (get_or order position 0)) (below (length order)) at (in_below (length order) at low) reached
 
-  closure_reached : (place : ℕ) → All (λ at. reaches edges (get_or order place 0) (get_or order at 0) ≡ true) (closure_of edges order (get_or order place 0))
-  closure_reached place = filter_passes (λ position. reaches edges (get_or order place 0) (get_or order position 0)) (below (length order))
+  closure_reached : (rank : ℕ) → All (λ at. reaches edges (get_or order rank 0) (get_or order at 0) ≡ true) (closure_of edges order (get_or order rank 0))
+  closure_reached rank = filter_passes (λ position. reaches edges (get_or order rank 0) (get_or order position 0)) (below (length order))
 
-  closure_within : (place : ℕ) → All (λ at. at < length order) (closure_of edges order (get_or order place 0))
-  closure_within place = All-filter (λ position. reaches edges (get_or order place 0) (get_or order position 0)) (λ at. at < length order) (below (length order)) (below_all (length order))
+  closure_within : (rank : ℕ) → All (λ at. at < length order) (closure_of edges order (get_or order rank 0))
+  closure_within rank = All-filter (λ position. reaches edges (get_or order rank 0) (get_or order position 0)) (λ at. at < length order) (below (length order)) (below_all (length order))
 
-  closed_at : (place at : ℕ) → place < length order → at < length order → reaches edges (get_or order place 0) (get_or order at 0) ≡ true → All (Contains (closure_of edges order (get_or order place 0))) (closure_of edges order (get_or order at 0))
-  closed_at place at lt low reached k d l =
-      in_closure place (get_or (closure_of edges order (get_or order at 0)) k d) (closure_within at k d l)
-      (reaches_on edges order is (suc place) place (get_or order at 0) (get_or order (get_or (closure_of edges order (get_or order at 0)) k d) 0) (omega arith) lt reached (closure_reached at k d l))
+  closed_at : (rank at : ℕ) → rank < length order → at < length order → reaches edges (get_or order rank 0) (get_or order at 0) ≡ true → All (Contains (closure_of edges order (get_or order rank 0))) (closure_of edges order (get_or order at 0))
+  closed_at rank at lt low reached k d l =
+      in_closure rank (get_or (closure_of edges order (get_or order at 0)) k d) (closure_within at k d l)
+      (reaches_on edges order is (suc rank) rank (get_or order at 0) (get_or order (get_or (closure_of edges order (get_or order at 0)) k d) 0) (omega arith) lt reached (closure_reached at k d l))
 
-  is_entry : (place : ℕ) → place < length order → IsEntryAt whole place (entry_at place)
-  is_entry place lt =
-      let file = proper.each (get_or order place 0) no_file (file_within place lt) in
+  is_entry : (rank : ℕ) → rank < length order → IsEntryAt whole rank (entry_at rank)
+  is_entry rank lt =
+      let file = proper.each (get_or order rank 0) no_file (file_within rank lt) in
       record {
-        rising = IsStrictlyIncreasing-filter (λ position. reaches edges (get_or order place 0) (get_or order position 0)) (below (length order)) (below_rises (length order));
-        before = λ k d l. reached_before edges order is (suc place) place (get_or (closure_of edges order (get_or order place 0)) k d) (omega arith) lt (closure_within place k d l) (closure_reached place k d l);
+        rising = IsStrictlyIncreasing-filter (λ position. reaches edges (get_or order rank 0) (get_or order position 0)) (below (length order)) (below_rises (length order));
+        before = λ k d l. reached_before edges order is (suc rank) rank (get_or (closure_of edges order (get_or order rank 0)) k d) (omega arith) lt (closure_within rank k d l) (closure_reached rank k d l);
         closed = λ k d l other.
-            let at : ℕ = get_or (closure_of edges order (get_or order place 0)) k d in
-            subst (λ (e : Entry). All (Contains (closure_of edges order (get_or order place 0))) e.deps) (sym (get_or-linked at other (closure_within place k d l))) (closed_at place at lt (closure_within place k d l) (closure_reached place k d l));
+            let at : ℕ = get_or (closure_of edges order (get_or order rank 0)) k d in
+            subst (λ (e : Entry). All (Contains (closure_of edges order (get_or order rank 0))) e.deps) (sym (get_or-linked at other (closure_within rank k d l))) (closed_at rank at lt (closure_within rank k d l) (closure_reached rank k d l));
         name = file.name;
         command = file.command;
-        text = fit.small.short (get_or order place 0) [] (omega (arith, file_within place lt, fit.each));
+        text = fit.small.short (get_or order rank 0) [] (omega (arith, file_within rank lt, fit.each));
       }
 
   names_apart : (i j : ℕ) → i < j → j < length order → (file_at i).name ≢ (file_at j).name
@@ -153,13 +153,13 @@ module _ (project : Project) (texts : List (List ℕ)) (edges : List (List ℕ))
   }
 
   -- the graph so far, with one file more
-  pub linked_more : (place : ℕ) (entry : Entry) → place < length order → entry ≡ entry_at place → take place whole ++ entry ∷ [] ≡ take (place + 1) whole
-  linked_more place entry lt same = ap (λ (e : Entry). take place whole ++ e ∷ []) (same ∙ sym (get_or-linked place entry lt)) ∙ sym (take_more whole place entry (omega (arith, length-linked)))
+  pub linked_more : (rank : ℕ) (entry : Entry) → rank < length order → entry ≡ entry_at rank → take rank whole ++ entry ∷ [] ≡ take (rank + 1) whole
+  linked_more rank entry lt same = ap (λ (e : Entry). take rank whole ++ e ∷ []) (same ∙ sym (get_or-linked rank entry lt)) ∙ sym (take_more whole rank entry (omega (arith, length-linked)))
 
-  pub more_is_graph : (place : ℕ) (entry : Entry) → place < length order → entry ≡ entry_at place → IsGraph (take place whole ++ entry ∷ [])
-  more_is_graph place entry lt same =
-      subst IsGraph (sym (linked_more place entry lt same))
-      (IsGraph-prefix (take (place + 1) whole) (drop (place + 1) whole) (subst IsGraph (sym (take-append-drop (place + 1) whole)) linked_is_graph))
+  pub more_is_graph : (rank : ℕ) (entry : Entry) → rank < length order → entry ≡ entry_at rank → IsGraph (take rank whole ++ entry ∷ [])
+  more_is_graph rank entry lt same =
+      subst IsGraph (sym (linked_more rank entry lt same))
+      (IsGraph-prefix (take (rank + 1) whole) (drop (rank + 1) whole) (subst IsGraph (sym (take-append-drop (rank + 1) whole)) linked_is_graph))
 
   same_entry : (e : Entry) (name : FileName) (command : List (List ℕ)) (text deps : List ℕ) → e.name ≡ name → e.command ≡ command → e.text ≡ text → e.deps ≡ deps → e ≡ record { name = name; command = command; text = text; deps = deps }
   same_entry e name command text deps n c t d =
@@ -168,25 +168,25 @@ module _ (project : Project) (texts : List (List ℕ)) (edges : List (List ℕ))
       ∙ ap (λ (x : List ℕ). record { name = name; command = command; text = x; deps = e.deps }) t
       ∙ ap (λ (x : List ℕ). record { name = name; command = command; text = text; deps = x }) d
 
-  -- the file that is made for a place
-  pub entry_made : (ordered : List ℕ) (files : List ProjectFile) (place : ℕ) (file : ProjectFile) (row : PositionSet) (rows : List PositionSet) (entry : Entry) → ordered ≡ order → files ≡ project.files
-      → place < length ordered → file ≡ get_or files (get_or ordered place 0) file → row ≡ get_or rows place row → length rows ≡ length ordered
+  -- the file that is made for a rank
+  pub entry_made : (ordered : List ℕ) (files : List ProjectFile) (rank : ℕ) (file : ProjectFile) (row : PositionSet) (rows : List PositionSet) (entry : Entry) → ordered ≡ order → files ≡ project.files
+      → rank < length ordered → file ≡ get_or files (get_or ordered rank 0) file → row ≡ get_or rows rank row → length rows ≡ length ordered
       → ((at k : ℕ) → at < length ordered → k < length ordered → row_has rows at k ≡ reaches edges (get_or ordered at 0) (get_or ordered k 0))
-      → entry.name ≡ file.name → entry.command ≡ file.command → entry.text ≡ get_or texts (get_or order place 0) [] → entry.deps ≡ filter (has row) (below (length ordered)) → entry ≡ entry_at place
-  entry_made ordered files place file row rows entry o f lt file_is row_is many reached name command text deps =
-      let low : place < length order = omega (arith, ap (λ (xs : List ℕ). length xs) o) in
-      let position : get_or ordered place 0 ≡ get_or order place 0 = ap (λ (xs : List ℕ). get_or xs place 0) o in
-      let the_file : file ≡ file_at place =
-      file_is ∙ ap (λ (fs : List ProjectFile). get_or fs (get_or ordered place 0) file) f ∙ ap (λ (k : ℕ). get_or project.files k file) position ∙ get_or_default project.files (get_or order place 0) file no_file (file_within place low) in
-      let rows_say : (k : ℕ) → k < length order → has row k ≡ reaches edges (get_or order place 0) (get_or order k 0) = λ k within.
-      sym (row_at rows place k row (omega arith) row_is) ∙ reached place k lt (omega (arith, ap (λ (xs : List ℕ). length xs) o)) ∙ ap (λ (xs : List ℕ). reaches edges (get_or xs place 0) (get_or xs k 0)) o in
-      let the_deps : entry.deps ≡ closure_of edges order (get_or order place 0) =
-      deps ∙ ap (λ (xs : List ℕ). filter (has row) (below (length xs))) o ∙ filter_below (has row) (λ k. reaches edges (get_or order place 0) (get_or order k 0)) (length order) rows_say in
-      same_entry entry (file_at place).name (file_at place).command (get_or texts (get_or order place 0) []) (closure_of edges order (get_or order place 0)) (name ∙ ap (λ (x : ProjectFile). x.name) the_file) (command ∙ ap (λ (x : ProjectFile). x.command) the_file) text the_deps
+      → entry.name ≡ file.name → entry.command ≡ file.command → entry.text ≡ get_or texts (get_or order rank 0) [] → entry.deps ≡ filter (has row) (below (length ordered)) → entry ≡ entry_at rank
+  entry_made ordered files rank file row rows entry o f lt file_is row_is many reached name command text deps =
+      let low : rank < length order = omega (arith, ap (λ (xs : List ℕ). length xs) o) in
+      let position : get_or ordered rank 0 ≡ get_or order rank 0 = ap (λ (xs : List ℕ). get_or xs rank 0) o in
+      let the_file : file ≡ file_at rank =
+      file_is ∙ ap (λ (fs : List ProjectFile). get_or fs (get_or ordered rank 0) file) f ∙ ap (λ (k : ℕ). get_or project.files k file) position ∙ get_or_default project.files (get_or order rank 0) file no_file (file_within rank low) in
+      let rows_say : (k : ℕ) → k < length order → has row k ≡ reaches edges (get_or order rank 0) (get_or order k 0) = λ k within.
+      sym (row_at rows rank k row (omega arith) row_is) ∙ reached rank k lt (omega (arith, ap (λ (xs : List ℕ). length xs) o)) ∙ ap (λ (xs : List ℕ). reaches edges (get_or xs rank 0) (get_or xs k 0)) o in
+      let the_deps : entry.deps ≡ closure_of edges order (get_or order rank 0) =
+      deps ∙ ap (λ (xs : List ℕ). filter (has row) (below (length xs))) o ∙ filter_below (has row) (λ k. reaches edges (get_or order rank 0) (get_or order k 0)) (length order) rows_say in
+      same_entry entry (file_at rank).name (file_at rank).command (get_or texts (get_or order rank 0) []) (closure_of edges order (get_or order rank 0)) (name ∙ ap (λ (x : ProjectFile). x.name) the_file) (command ∙ ap (λ (x : ProjectFile). x.command) the_file) text the_deps
 
--- after the text of the file at a place was taken, those of the files at later places are as they were
-pub left_texts : (edges : List (List ℕ)) (order : List ℕ) → IsBuildOrder edges order → (texts left : List (List ℕ)) (place : ℕ)
-    → ((at : ℕ) → place ≤ at → at < length order → get_or left (get_or order at 0) [] ≡ get_or texts (get_or order at 0) [])
-    → (at : ℕ) → place + 1 ≤ at → at < length order → get_or (set left (get_or order place 0) []) (get_or order at 0) [] ≡ get_or texts (get_or order at 0) []
-left_texts edges order is texts left place before at later within =
-    get_or-set_other left (get_or order place 0) (get_or order at 0) [] [] (λ e. is.distinct place at 0 (omega arith) within (sym e)) ∙ before at (omega arith) within
+-- after the text of the file at a rank was taken, those of the files at later ranks are as they were
+pub left_texts : (edges : List (List ℕ)) (order : List ℕ) → IsBuildOrder edges order → (texts left : List (List ℕ)) (rank : ℕ)
+    → ((at : ℕ) → rank ≤ at → at < length order → get_or left (get_or order at 0) [] ≡ get_or texts (get_or order at 0) [])
+    → (at : ℕ) → rank + 1 ≤ at → at < length order → get_or (set left (get_or order rank 0) []) (get_or order at 0) [] ≡ get_or texts (get_or order at 0) []
+left_texts edges order is texts left rank before at later within =
+    get_or-set_other left (get_or order rank 0) (get_or order at 0) [] [] (λ e. is.distinct rank at 0 (omega arith) within (sym e)) ∙ before at (omega arith) within

@@ -1,7 +1,7 @@
 //! Whether texts are those of a project, within the limits of a graph.
 
 ghost use Rattle.std.specs.Prelude.{◌↔◌, ◌≤◌, IsTrue, length, All, sum_by};
-ghost use Rattle.order_spec.specs.LinkedGraph.{FitTexts, AreSmall};
+ghost use Rattle.order.specs.LinkedGraph.{FitTexts, AreSmall};
 
 use base::{GRAPH_TEXT_LIMIT, Project, TEXT_LIMIT, Text, TextList};
 

@@ -5,13 +5,13 @@ ghost use Rattle.std.proofs.Math.ListN.{set};
 ghost use Rattle.base.specs.PresentGraph.{below};
 ghost use Rattle.base.specs.Graphs.{IsGraph};
 ghost use Rattle.base.specs.Projects.{IsProject};
-ghost use Rattle.base_position_set.specs.Positions.{has};
-ghost use Rattle.order_spec.specs.BuildOrder.{AreEdges, IsBuildOrder};
-ghost use Rattle.order_spec.specs.LinkedGraph.{FitTexts, linked};
+ghost use Rattle.base_collections.specs.Positions.{has};
+ghost use Rattle.order.specs.BuildOrder.{AreEdges, IsBuildOrder};
+ghost use Rattle.order.specs.LinkedGraph.{FitTexts, linked};
 
-use crate::closures::{closures, places_of};
+use crate::closures::{closures, ranks_of};
 use base::{Edges, Entry, Graph, NoMemory, Order, Project, ProjectFile, Text, TextList};
-use base_position_set::PositionSet;
+use base_collections::PositionSet;
 use std::alloc::Global;
 use std::mem;
 
@@ -65,16 +65,16 @@ pub fn linked_entries(
     ensures graph { IfOk result (λ entries. IsGraph entries.items) }
 {
     let order = order.as_slice();
-    let places = places_of(alloc, edges, order)?;
-    let rows = closures(alloc, edges, order, places.as_slice())?;
+    let ranks = ranks_of(alloc, edges, order)?;
+    let rows = closures(alloc, edges, order, ranks.as_slice())?;
     let files = project.files.as_slice();
     let mut texts = texts.into_vec();
     let mut entries = Vec::with_capacity(alloc, order.len())?;
-    for place in 0..order.len() {
-        let file = order[place] as usize;
+    for rank in 0..order.len() {
+        let file = order[rank] as usize;
         let count = order.len() as u32;
         let text = take_text(alloc, &mut texts, file);
-        let entry = entry_of(alloc, &files[file], text, &rows[place], count)?;
+        let entry = entry_of(alloc, &files[file], text, &rows[rank], count)?;
         entries.push(entry)?;
     }
     Ok(entries)

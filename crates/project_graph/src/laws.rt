@@ -4,8 +4,8 @@ ghost use Rattle.std.specs.Prelude.{◌≡◌, ℕ, List, length};
 ghost use Rattle.base.specs.declared.project.Project.{Project};
 ghost use Rattle.base.specs.Graphs.{IsGraph};
 ghost use Rattle.base.specs.Projects.{IsProject};
-ghost use Rattle.order_spec.specs.BuildOrder.{AreEdges, IsBuildOrder};
-ghost use Rattle.order_spec.specs.LinkedGraph.{FitTexts, linked};
+ghost use Rattle.order.specs.BuildOrder.{AreEdges, IsBuildOrder};
+ghost use Rattle.order.specs.LinkedGraph.{FitTexts, linked};
 
 /// The files of a project, in an order in which each comes after what it depends on, are a graph.
 pub fn laws_of_linked_graphs()

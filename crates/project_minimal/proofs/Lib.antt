@@ -1,4 +1,11 @@
--- Lemmas of this crate.
+-- The lemmas.
+pub mod Tests
+mod SupplierLemmas
+mod TakingLemmas
+mod Supplied
+mod IndexLemmas
+mod Walk
+pub mod Least
 mod Restricting
 mod NeededParts
-mod Places
+mod RankLaws

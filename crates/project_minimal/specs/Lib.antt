@@ -1,2 +1,7 @@
--- The definitions of this crate.
+-- The definitions.
+pub mod MinimalSet
+pub mod Suppliers
+pub mod Taking
+pub mod Sources
+pub mod Needing
 pub mod Nothing

@@ -5,24 +5,24 @@ ghost use Rattle.base.specs.declared.design.Scan.{Scan};
 ghost use Rattle.base.specs.PresentGraph.{below, listed};
 ghost use Rattle.base.specs.Projects.{IsProject};
 ghost use Rattle.base.specs.View.{part};
-ghost use Rattle.vhdl_outlines.specs.Outlines.{AreOutlined, AreOutlinesOf};
-ghost use Rattle.vhdl_minimal_set.specs.MinimalSet.{needed_places, said_of};
+ghost use Rattle.vhdl_outline.specs.Outlines.{AreOutlined, AreOutlinesOf};
+ghost use Rattle.project_minimal.specs.MinimalSet.{needed_ranks, said_of};
 ghost use Rattle.vhdl_scope.specs.Tables.{AreVisible};
-ghost use Rattle.order_spec.specs.BuildOrder.{AreEdges, IsBuildOrder};
-ghost use Rattle.order_spec.specs.LinkedGraph.{FitTexts, linked};
+ghost use Rattle.order.specs.BuildOrder.{AreEdges, IsBuildOrder};
+ghost use Rattle.order.specs.LinkedGraph.{FitTexts, linked};
 
 use crate::listed::listed_entries;
 use crate::parts::restrict;
+use crate::{minimal, ranks_in};
 use base::{Edges, FILE_LIMIT, Graph, NoMemory, Order, Positions, Project, TextList};
+use base_outcomes::Tests;
 use project_graph::{graph_of_entries, linked_entries};
 use std::alloc::Global;
-use vhdl_benches::Tests;
-use vhdl_minimal_set::{minimal, places_in};
-use vhdl_outlines::Outlines;
+use vhdl_outline::Outlines;
 use vhdl_scope::{VisibleLibraries, visible_sets};
 
-/// The places in an order of the files of a linked project that tests need.
-fn linked_places(
+/// The ranks in an order of the files of a linked project that tests need.
+fn linked_ranks(
     alloc: Global,
     project: &Project,
     texts: &TextList,
@@ -41,11 +41,11 @@ fn linked_places(
     requires as_many { length edges.now ≡ length project.now.files }
     requires order { IsBuildOrder edges.now order.now }
     ensures { IfOk result (λ kept. (scans : List Scan) →
-        AreOutlinesOf texts.now scans outlines.now → kept ≡ needed_places
+        AreOutlinesOf texts.now scans outlines.now → kept ≡ needed_ranks
         (said_of project.now texts.now scans (Some edges.now)) tests.now order.now) }
 {
     let set = minimal(alloc, project, texts, outlines, sets, Some(edges), tests)?;
-    places_in(alloc, order.as_slice(), &set)
+    ranks_in(alloc, order.as_slice(), &set)
 }
 
 /// The graph of the files of a linked project that tests need: their files in the order of all, each with all that it depends
@@ -72,16 +72,16 @@ pub fn minimal_graph(
     ensures { IfOk result (λ graph. (scans : List Scan) →
         AreOutlinesOf texts scans outlines.now →
         graph ≡ part (linked project.now.files texts edges.now order.now)
-        (needed_places (said_of project.now texts scans (Some edges.now)) tests.now order.now)) }
+        (needed_ranks (said_of project.now texts scans (Some edges.now)) tests.now order.now)) }
 {
-    let kept = linked_places(alloc, project, &texts, outlines, sets, edges, order, tests)?;
+    let kept = linked_ranks(alloc, project, &texts, outlines, sets, edges, order, tests)?;
     let entries = linked_entries(alloc, project, texts, edges, order)?;
     let some = restrict(alloc, entries, &kept)?;
     graph_of_entries(alloc, some)
 }
 
 /// The positions of the files of a listed project that tests need.
-fn listed_places(
+fn listed_ranks(
     alloc: Global,
     project: &Project,
     texts: &TextList,
@@ -92,7 +92,7 @@ fn listed_places(
     requires texts { FitTexts project.now.files texts.now }
     requires outlined { AreOutlined texts.now outlines.now }
     ensures { IfOk result (λ kept. (scans : List Scan) →
-        AreOutlinesOf texts.now scans outlines.now → kept ≡ needed_places
+        AreOutlinesOf texts.now scans outlines.now → kept ≡ needed_ranks
         (said_of project.now texts.now scans None) tests.now (below (length project.now.files))) }
 {
     let sets = visible_sets(alloc, project, texts, outlines)?;
@@ -115,10 +115,10 @@ pub fn minimal_listed_graph(
     requires outlined { AreOutlined texts outlines.now }
     ensures { IfOk result (λ graph. (scans : List Scan) →
         AreOutlinesOf texts scans outlines.now →
-        graph ≡ part (listed project.now.files texts) (needed_places
+        graph ≡ part (listed project.now.files texts) (needed_ranks
         (said_of project.now texts scans None) tests.now (below (length project.now.files)))) }
 {
-    let kept = listed_places(alloc, project, &texts, outlines, tests)?;
+    let kept = listed_ranks(alloc, project, &texts, outlines, tests)?;
     let entries = listed_entries(alloc, project, texts)?;
     let some = restrict(alloc, entries, &kept)?;
     graph_of_entries(alloc, some)

@@ -3,7 +3,7 @@
 ghost use Rattle.std.specs.Prelude.{◌≡◌, ◌≤◌, length, IfOk};
 ghost use Rattle.base.specs.Projects.{IsProject};
 ghost use Rattle.base.specs.PresentGraph.{listed};
-ghost use Rattle.order_spec.specs.LinkedGraph.{FitTexts};
+ghost use Rattle.order.specs.LinkedGraph.{FitTexts};
 
 use base::{Entry, FILE_LIMIT, NoMemory, Project, TextList};
 use project_views::listed_entry;

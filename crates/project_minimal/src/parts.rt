@@ -28,7 +28,7 @@ fn numbers_of(alloc: Global, count: usize, kept: &[u32]) -> Result<Vec<u32>, NoM
 }
 
 /// The new numbers of positions.
-fn renumbered(alloc: Global, table: &[u32], positions: &[u32]) -> Result<Positions, NoMemory>
+fn renumber(alloc: Global, table: &[u32], positions: &[u32]) -> Result<Positions, NoMemory>
     requires { All (λ position. position < length table.now) positions.now }
     ensures { IfOk result (λ numbers. numbers ≡ map (slice_index table.now) positions.now) }
 {
@@ -54,7 +54,7 @@ fn with_numbers(alloc: Global, table: &[u32], entry: Entry) -> Result<Entry, NoM
         name,
         command,
         text,
-        deps: renumbered(alloc, table, deps.as_slice())?,
+        deps: renumber(alloc, table, deps.as_slice())?,
     })
 }
 

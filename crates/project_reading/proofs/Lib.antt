@@ -6,3 +6,7 @@ mod ScanLemmas
 mod Listings
 mod LinkLemmas
 mod Steps
+mod Strings
+mod UnitNames
+mod ReadBenches
+mod Fitting

@@ -13,9 +13,9 @@ use Rattle.base_outcomes.specs.declared.outcome.Refusal.{Refusal}
 use Rattle.base_outcomes.specs.declared.outcome.Refusal.TheVariants as refusal
 use Rattle.vhdl_spec.specs.Tokens.{HasFault}
 use Rattle.vhdl_spec.specs.Units.{HasUnitFault, AreTokensOf}
-use Rattle.vhdl_outlines.specs.declared.outlines.Outlines.{Outlines}
-use Rattle.vhdl_outlines.specs.Outlines.{AreOutlinesOf, FilesLieIn, HasAdded}
-use Rattle.vhdl_outlines.proofs.OutlineLemmas.{lie_more, no_outlines, no_scans, none_lie, outlines_more, scans_more, take_got}
+use Rattle.vhdl_outline.specs.declared.outlines.Outlines.{Outlines}
+use Rattle.vhdl_outline.specs.Outlines.{AreOutlinesOf, FilesLieIn, HasAdded}
+use Rattle.vhdl_outline.proofs.OutlineLemmas.{lie_more, no_outlines, no_scans, none_lie, outlines_more, scans_more, take_got}
 use Rattle.vhdl_spec.specs.Scans.{AreScansOf, Finding, Clean, Lexical, Grammatical, IsFinding, IsScanner, IsScanOf}
 use Rattle.vhdl_spec.proofs.OneFinding.{one_finding}
 use Rattle.project_reading.specs.Reading.{SourceReading, Stops, scan_of, scans_of, and_others}

@@ -1,5 +1,5 @@
 -- The definitions.
-pub mod Wishes
+pub mod Queries
 pub mod Reading
 pub mod Sources
 pub mod Scanning

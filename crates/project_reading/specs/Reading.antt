@@ -5,8 +5,8 @@ use Rattle.base.specs.declared.file.FileName.{FileName}
 use Rattle.base.specs.declared.project.Project.{Project}
 use Rattle.base.specs.declared.project.ProjectFile.{ProjectFile}
 use Rattle.base.specs.declared.project.ProjectFault.{ProjectFault}
-use Rattle.vhdl_benches.specs.declared.bench.Bench.{Bench}
-use Rattle.vhdl_benches.specs.declared.bench.TestFault.{TestFault}
+use Rattle.base_outcomes.specs.declared.bench.Bench.{Bench}
+use Rattle.base_outcomes.specs.declared.bench.TestFault.{TestFault}
 use Rattle.base.specs.declared.design.Scan.{Scan}
 use Rattle.base.specs.declared.linking.Linked.{Linked}
 use Rattle.base.specs.declared.linking.LinkFault.{LinkFault}
@@ -26,14 +26,14 @@ use Rattle.project_file.specs.Csv.{csv_project}
 use Rattle.project_file.specs.Toml.{toml_project}
 use Rattle.vhdl_spec.specs.Scans.{Finding, Clean, Lexical, Grammatical}
 use Rattle.vhdl_spec.specs.Dependencies.{link_units, link_of}
-use Rattle.test_select.specs.Selection.{count_of_tests}
-use Rattle.test_scan.specs.Benches.{sources_of, tests_of}
-use Rattle.order_spec.specs.BuildOrder.{FileOrder, Ordered, Cyclic, file_order}
-use Rattle.order_spec.specs.LinkedGraph.{linked}
-use Rattle.vhdl_minimal_set.specs.MinimalSet.{NeedSources, needed_places, said_of}
+use Rattle.testbench_select.specs.Selection.{count_of_tests}
+use Rattle.testbench_scan.specs.Benches.{sources_of, tests_of}
+use Rattle.order.specs.BuildOrder.{FileOrder, Ordered, Cyclic, file_order}
+use Rattle.order.specs.LinkedGraph.{linked}
+use Rattle.project_minimal.specs.MinimalSet.{NeedSources, needed_ranks, said_of}
 use Rattle.project_reading.specs.declared.linking.ReadProject.{ReadProject}
-use Rattle.project_reading.specs.declared.wish.Wish.{Wish}
-use Rattle.project_reading.specs.Wishes.{chosen, wants_tests, wished}
+use Rattle.project_reading.specs.declared.query.Query.{Query}
+use Rattle.project_reading.specs.Queries.{chosen, wants_tests, queried}
 
 -- The sources are refused; a quantity is over its limit, which is this number; or this project is read.
 pub data SourceReading : Type 0 where
@@ -164,54 +164,54 @@ abbrev pub listed_needs : Project → List (List ℕ) → List Scan → NeedSour
 listed_needs project texts scans = said_of project texts scans None
 
 -- a linked project, its graph in compile order: all of it, or the files that the tests need that some pattern matches
-abbrev pub ordered_reading : Wish → Project → List (List ℕ) → List Scan → Linked → List ℕ → List Bench → SourceReading
-ordered_reading wish project texts scans links order tests = Found (record {
+abbrev pub ordered_reading : Query → Project → List (List ℕ) → List Scan → Linked → List ℕ → List Bench → SourceReading
+ordered_reading query project texts scans links order tests = Found (record {
   project = project;
-  graph = wished wish.extent (linked project.files texts links.edges order) (needed_places (linked_needs project texts scans links) (chosen wish.patterns tests) order);
+  graph = queried query.query_kind (linked project.files texts links.edges order) (needed_ranks (linked_needs project texts scans links) (chosen query.patterns tests) order);
   warnings = links.warnings;
   tests = tests;
 })
 
 -- the graph of files in compile order and, where they are wanted, the tests
-abbrev pub order_reading : Wish → Project → List (List ℕ) → List Scan → Linked → List ℕ → SourceReading
-order_reading wish project texts scans links order = then_read (ordered_reading wish project texts scans links order) (wanted_tests (wants_tests wish.extent) project texts scans)
+abbrev pub order_reading : Query → Project → List (List ℕ) → List Scan → Linked → List ℕ → SourceReading
+order_reading query project texts scans links order = then_read (ordered_reading query project texts scans links order) (wanted_tests (wants_tests query.query_kind) project texts scans)
 
 -- the reading of files with known edges, which are ordered first
-abbrev pub linked_reading : Wish → Project → List (List ℕ) → List Scan → Linked → SourceReading
-linked_reading wish project texts scans links = then_read (order_reading wish project texts scans links) (order_or project.files (file_order links.edges))
+abbrev pub linked_reading : Query → Project → List (List ℕ) → List Scan → Linked → SourceReading
+linked_reading query project texts scans links = then_read (order_reading query project texts scans links) (order_or project.files (file_order links.edges))
 
 -- a listed project, its graph in listed order
-abbrev pub found_reading : Wish → Project → List (List ℕ) → List Scan → List Bench → SourceReading
-found_reading wish project texts scans tests = Found (record {
+abbrev pub found_reading : Query → Project → List (List ℕ) → List Scan → List Bench → SourceReading
+found_reading query project texts scans tests = Found (record {
   project = project;
-  graph = wished wish.extent (listed project.files texts) (needed_places (listed_needs project texts scans) (chosen wish.patterns tests) (below (length project.files)));
+  graph = queried query.query_kind (listed project.files texts) (needed_ranks (listed_needs project texts scans) (chosen query.patterns tests) (below (length project.files)));
   warnings = [];
   tests = tests;
 })
 
 -- the reading of a listed project with known texts and scans, whose order is that of its list
-abbrev pub listed_reading : Wish → Project → List (List ℕ) → List Scan → SourceReading
-listed_reading wish project texts scans = then_read (found_reading wish project texts scans) (wanted_tests (wants_tests wish.extent) project texts scans)
+abbrev pub listed_reading : Query → Project → List (List ℕ) → List Scan → SourceReading
+listed_reading query project texts scans = then_read (found_reading query project texts scans) (wanted_tests (wants_tests query.query_kind) project texts scans)
 
 -- The reading of a project of these texts and scans, with what is wanted of it. What is wrong with the names of
 -- its units or with their order comes first.
-unfoldable pub scanned_reading : Wish → Project → List (List ℕ) → List Scan → SourceReading
-scanned_reading wish project texts scans = if project.listed then listed_reading wish project texts scans else then_read (linked_reading wish project texts scans) (links_of project texts scans)
+unfoldable pub scanned_reading : Query → Project → List (List ℕ) → List Scan → SourceReading
+scanned_reading query project texts scans = if project.listed then listed_reading query project texts scans else then_read (linked_reading query project texts scans) (links_of project texts scans)
 
 -- the reading of files with known texts, which are scanned first
-abbrev pub texts_reading : Wish → (List ℕ → Finding) → Project → List (List ℕ) → SourceReading
-texts_reading wish scan project texts = then_read (scanned_reading wish project texts) (scans_of scan project.files texts)
+abbrev pub texts_reading : Query → (List ℕ → Finding) → Project → List (List ℕ) → SourceReading
+texts_reading query scan project texts = then_read (scanned_reading query project texts) (scans_of scan project.files texts)
 
 -- the reading of a known project, whose files are read first from a map of paths to bytes
-abbrev pub files_reading : Wish → (List ℕ → Finding) → (List ℕ → Option (List ℕ)) → Project → SourceReading
-files_reading wish scan file project = then_read (texts_reading wish scan project) (texts_of file 0 project.files)
+abbrev pub files_reading : Query → (List ℕ → Finding) → (List ℕ → Option (List ℕ)) → Project → SourceReading
+files_reading query scan file project = then_read (texts_reading query scan project) (texts_of file 0 project.files)
 
 -- the reading of a project over these files
-abbrev pub sources_reading : Wish → (List ℕ → Finding) → (List ℕ → Option (List ℕ)) → Project → SourceReading
-sources_reading wish scan file project = if nat_le (length project.files) FILE_LIMIT then files_reading wish scan file project else Over limit.Files FILE_LIMIT
+abbrev pub sources_reading : Query → (List ℕ → Finding) → (List ℕ → Option (List ℕ)) → Project → SourceReading
+sources_reading query scan file project = if nat_le (length project.files) FILE_LIMIT then files_reading query scan file project else Over limit.Files FILE_LIMIT
 
 -- What the sources say, a function of a scanner, a map from paths to bytes and the listed names. In order come the
 -- project, the texts of its files, their scans, the graph, the wanted tests, and the part of the graph that these
 -- need; the first thing that is wrong, or over a limit, ends it.
-unfoldable pub project_reading : (List ℕ → Finding) → (List ℕ → Option (List ℕ)) → List (List ℕ) → (wish : Wish) → SourceReading
-project_reading scan file listed wish = then_read (sources_reading wish scan file) (project_in file listed)
+unfoldable pub project_reading : (List ℕ → Finding) → (List ℕ → Option (List ℕ)) → List (List ℕ) → (query : Query) → SourceReading
+project_reading scan file listed query = then_read (sources_reading query scan file) (project_in file listed)

@@ -4,8 +4,8 @@ use Rattle.base.specs.declared.file.FileName.{FileName}
 use Rattle.base.specs.declared.design.Scan.{Scan}
 use Rattle.base.specs.declared.project.ProjectFile.{ProjectFile}
 use Rattle.vhdl_spec.specs.Scans.{AreScansOf, Finding, IsFinding, IsScanOf, IsScanner}
-use Rattle.vhdl_outlines.specs.declared.outlines.Outlines.{Outlines}
-use Rattle.vhdl_outlines.specs.Outlines.{AreOutlinesOf, FilesLieIn}
+use Rattle.vhdl_outline.specs.declared.outlines.Outlines.{Outlines}
+use Rattle.vhdl_outline.specs.Outlines.{AreOutlinesOf, FilesLieIn}
 use Rattle.project_reading.specs.Reading.{Stops, scan_of, scans_of}
 use Rattle.project_reading.specs.Sources.{Gives}
 use Rattle.project_reading.specs.declared.stops.ReadStop.{ReadStop}

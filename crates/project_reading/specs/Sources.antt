@@ -5,13 +5,13 @@ use Rattle.base.specs.declared.design.Scan.{Scan}
 use Rattle.base_outcomes.specs.declared.outcome.Limit.TheVariants as limit
 use Rattle.base.specs.declared.project.Project.{Project}
 use Rattle.outside.specs.Counts.{Counted}
-use Rattle.order_spec.specs.LinkedGraph.{FitTexts}
+use Rattle.order.specs.LinkedGraph.{FitTexts}
 use Rattle.vhdl_spec.specs.Scans.{AreScansOf}
 use Rattle.base.specs.declared.limits.TheConstants.{FILE_LIMIT}
 use Rattle.project_reading.specs.Reading.{SourceReading, Stops, Over, Found, scanned_reading}
 use Rattle.project_reading.specs.declared.linking.ReadProject.{ReadProject}
 use Rattle.project_reading.specs.declared.stops.ReadStop.{ReadStop}
-use Rattle.project_reading.specs.declared.wish.Wish.{Wish}
+use Rattle.project_reading.specs.declared.query.Query.{Query}
 use Rattle.project_reading.specs.declared.stops.ReadStop.TheVariants as stop
 
 -- what was read is what there is to read; after a fault and out of memory nothing is owed
@@ -59,11 +59,11 @@ IsPlain (Err stop.NoMemory) = Unit {0}
 
 -- What was read is a project with its graph, warnings and tests, as some texts and their scans give them, whatever the
 -- tree tells.
-pub record IsReadProject (wish : Wish) (read : ReadProject) : Type 0 where
+pub record IsReadProject (query : Query) (read : ReadProject) : Type 0 where
   pub project : IsProject read.project
   pub few : length read.project.files ≤ FILE_LIMIT
   pub texts : List (List ℕ)
   pub fit : FitTexts read.project.files texts
   pub scans : List Scan
   pub scanned : AreScansOf texts scans
-  pub whole : scanned_reading wish read.project texts scans ≡ Found read
+  pub whole : scanned_reading query read.project texts scans ≡ Found read

@@ -1,4 +1,11 @@
 //! The graph of a project whose texts and outlines are there.
+//!
+//! Each step calls the next, since texts are borrowed until the last step moves them into the graph:
+//!
+//! 5. `read_from_outlines` finds the libraries that each unit sees. A listed project needs none: `read_listed` makes its graph.
+//! 6. `read_from_visible` finds what depends on what.
+//! 7. `read_from_links` finds the compile order.
+//! 8. `read_from_order` finds the tests, where they are wanted, and makes the graph.
 
 ghost use Rattle.std.specs.Prelude.{◌≡◌, ◌≤◌, ℕ, List, nat_lt, ◌∷◌, ◌++◌, [], length, Result, Err, Some, IfOk, OnOk};
 ghost use Rattle.base.specs.declared.design.Scan.{Scan};
@@ -6,34 +13,33 @@ ghost use Rattle.base.specs.declared.linking.Linked.{Linked as Links};
 ghost use Rattle.base.specs.declared.linking.LinkFault.{LinkFault as Fault};
 ghost use Rattle.base.specs.PresentGraph.{below, listed};
 ghost use Rattle.base.specs.Projects.{IsProject};
-ghost use Rattle.vhdl_minimal_set.specs.MinimalSet.{needed_places, said_of};
-ghost use Rattle.project_reading.specs.Wishes.{chosen, wished};
-ghost use Rattle.test_select.specs.Selection.{count_of_tests};
-ghost use Rattle.test_scan.specs.Benches.{sources_of, tests_of};
-ghost use Rattle.order_spec.specs.BuildOrder.{AreEdges, IsBuildOrder, file_order};
-ghost use Rattle.order_spec.specs.LinkedGraph.{FitTexts, linked};
-ghost use Rattle.vhdl_outlines.specs.Outlines.{AreOutlined, AreOutlinesOf};
+ghost use Rattle.project_minimal.specs.MinimalSet.{needed_ranks, said_of};
+ghost use Rattle.project_reading.specs.Queries.{chosen, queried};
+ghost use Rattle.testbench_select.specs.Selection.{count_of_tests};
+ghost use Rattle.testbench_scan.specs.Benches.{sources_of, tests_of};
+ghost use Rattle.order.specs.BuildOrder.{AreEdges, IsBuildOrder, file_order};
+ghost use Rattle.order.specs.LinkedGraph.{FitTexts, linked};
+ghost use Rattle.vhdl_outline.specs.Outlines.{AreOutlined, AreOutlinesOf};
 ghost use Rattle.vhdl_graph.specs.Results.{GivesLinks};
 ghost use Rattle.vhdl_scope.specs.Tables.{AreVisible};
 ghost use Rattle.project_reading.specs.Reading.{linked_or, links_of, listed_needs, names_at, order_or, wanted_tests, tests_or, listed_reading, order_reading, linked_reading, then_read, scanned_reading};
 ghost use Rattle.project_reading.specs.Sources.{Gives, LeadsTo, ReadCounts};
 
+use crate::query::{Query, QueryKind, select_tests, wants_tests};
 use crate::stops::ReadStop;
-use crate::wish::{Extent, Wish, chosen, wants_tests};
 use base::{
     CASE_LIMIT, Edges, FILE_LIMIT, FileList, Graph, LinkFault, Linked, NoMemory, OrMemory, Order,
     OrderFault, Project, ProjectFile, TextList, WarningList,
 };
-use base_outcomes::{Limit, Refusal};
-use order_files::order;
+use base_outcomes::{Limit, Refusal, Tests};
+use order::order;
 use project_graph::graph_of;
 use project_minimal::{minimal_graph, minimal_listed_graph};
 use project_views::listed_graph;
 use std::alloc::Global;
-use test_scan::benches;
-use vhdl_benches::Tests;
+use testbench_scan::benches;
 use vhdl_graph::link;
-use vhdl_outlines::Outlines;
+use vhdl_outline::Outlines;
 use vhdl_scope::{VisibleLibraries, visible_sets};
 
 /// The most cases of all benches.
@@ -230,9 +236,9 @@ fn wanted_tests(
 }
 
 /// The graph of a listed project that is wanted.
-fn wished_listed_graph(
+fn queried_listed_graph(
     alloc: Global,
-    wish: &Wish,
+    query: &Query,
     project: &Project,
     texts: TextList,
     outlines: &Outlines,
@@ -244,24 +250,24 @@ fn wished_listed_graph(
     requires outlined { AreOutlined texts outlines.now }
     ensures { IfOk result (λ graph. (scans : List Scan) →
         AreOutlinesOf texts scans outlines.now →
-        graph ≡ wished wish.now.extent (listed project.now.files texts)
-        (needed_places (listed_needs project.now texts scans)
-        (chosen wish.now.patterns tests.now) (below (length project.now.files)))) }
+        graph ≡ queried query.now.query_kind (listed project.now.files texts)
+        (needed_ranks (listed_needs project.now texts scans)
+        (chosen query.now.patterns tests.now) (below (length project.now.files)))) }
 {
-    match wish.extent {
-        Extent::Needed => {
-            let tests = chosen(alloc, tests, &wish.patterns)?;
+    match query.query_kind {
+        QueryKind::Needed => {
+            let tests = select_tests(alloc, tests, &query.patterns)?;
             minimal_listed_graph(alloc, project, texts, outlines, &tests)
         }
-        Extent::Graph => listed_graph(alloc, project, texts),
-        Extent::Tests => listed_graph(alloc, project, texts),
+        QueryKind::Graph => listed_graph(alloc, project, texts),
+        QueryKind::Tests => listed_graph(alloc, project, texts),
     }
 }
 
 /// The graph of a linked project that is wanted.
-fn wished_graph(
+fn queried_graph(
     alloc: Global,
-    wish: &Wish,
+    query: &Query,
     project: &Project,
     texts: TextList,
     outlines: &Outlines,
@@ -281,24 +287,24 @@ fn wished_graph(
     requires sorted { IsBuildOrder edges.now order.now }
     ensures { IfOk result (λ graph. (scans : List Scan) →
         AreOutlinesOf texts scans outlines.now →
-        graph ≡ wished wish.now.extent (linked project.now.files texts edges.now order.now)
-        (needed_places (said_of project.now texts scans (Some edges.now))
-        (chosen wish.now.patterns tests.now) order.now)) }
+        graph ≡ queried query.now.query_kind (linked project.now.files texts edges.now order.now)
+        (needed_ranks (said_of project.now texts scans (Some edges.now))
+        (chosen query.now.patterns tests.now) order.now)) }
 {
-    match wish.extent {
-        Extent::Needed => {
-            let tests = chosen(alloc, tests, &wish.patterns)?;
+    match query.query_kind {
+        QueryKind::Needed => {
+            let tests = select_tests(alloc, tests, &query.patterns)?;
             minimal_graph(alloc, project, texts, outlines, sets, edges, order, &tests)
         }
-        Extent::Graph => graph_of(alloc, project, texts, edges, order),
-        Extent::Tests => graph_of(alloc, project, texts, edges, order),
+        QueryKind::Graph => graph_of(alloc, project, texts, edges, order),
+        QueryKind::Tests => graph_of(alloc, project, texts, edges, order),
     }
 }
 
 /// A listed project, its graph in listed order.
-fn listed_project(
+fn read_listed(
     alloc: Global,
-    wish: &Wish,
+    query: &Query,
     project: Project,
     texts: TextList,
     outlines: &Outlines,
@@ -308,11 +314,17 @@ fn listed_project(
     requires texts { FitTexts project.files texts }
     requires outlined { AreOutlined texts outlines.now }
     ensures reading { (scans : List Scan) → AreOutlinesOf texts scans outlines.now →
-        LeadsTo (listed_reading wish.now project texts scans) result }
+        LeadsTo (listed_reading query.now project texts scans) result }
     ensures cause { (count : ℕ) → ReadCounts result count count }
 {
-    let tests = wanted_tests(alloc, wants_tests(wish.extent), &project, &texts, outlines)?;
-    let graph = wished_listed_graph(alloc, wish, &project, texts, outlines, &tests)?;
+    let tests = wanted_tests(
+        alloc,
+        wants_tests(query.query_kind),
+        &project,
+        &texts,
+        outlines,
+    )?;
+    let graph = queried_listed_graph(alloc, query, &project, texts, outlines, &tests)?;
     let warnings = WarningList::new(alloc);
     Ok(ReadProject {
         project,
@@ -323,9 +335,9 @@ fn listed_project(
 }
 
 /// A project with its files in order, its graph in compile order.
-fn ordered_project(
+fn read_from_order(
     alloc: Global,
-    wish: &Wish,
+    query: &Query,
     project: Project,
     texts: TextList,
     outlines: &Outlines,
@@ -343,13 +355,19 @@ fn ordered_project(
     requires count { length links.edges ≡ length project.files }
     requires sorted { IsBuildOrder links.edges order.now }
     ensures reading { (scans : List Scan) → AreOutlinesOf texts scans outlines.now →
-        LeadsTo (order_reading wish.now project texts scans links order.now) result }
+        LeadsTo (order_reading query.now project texts scans links order.now) result }
     ensures cause { (count : ℕ) → ReadCounts result count count }
 {
-    let tests = wanted_tests(alloc, wants_tests(wish.extent), &project, &texts, outlines)?;
+    let tests = wanted_tests(
+        alloc,
+        wants_tests(query.query_kind),
+        &project,
+        &texts,
+        outlines,
+    )?;
     let Linked { edges, warnings } = links;
-    let graph = wished_graph(
-        alloc, wish, &project, texts, outlines, sets, &edges, order, &tests,
+    let graph = queried_graph(
+        alloc, query, &project, texts, outlines, sets, &edges, order, &tests,
     )?;
     Ok(ReadProject {
         project,
@@ -360,9 +378,9 @@ fn ordered_project(
 }
 
 /// A project with what depends on what in it, its graph in compile order.
-fn linked_project(
+fn read_from_links(
     alloc: Global,
-    wish: &Wish,
+    query: &Query,
     project: Project,
     texts: TextList,
     outlines: &Outlines,
@@ -378,17 +396,17 @@ fn linked_project(
     requires edges { AreEdges links.edges }
     requires count { length links.edges ≡ length project.files }
     ensures reading { (scans : List Scan) → AreOutlinesOf texts scans outlines.now →
-        LeadsTo (linked_reading wish.now project texts scans links) result }
+        LeadsTo (linked_reading query.now project texts scans links) result }
     ensures cause { (count : ℕ) → ReadCounts result count count }
 {
     let order = order_of(alloc, project.files.as_slice(), &links.edges)?;
-    ordered_project(alloc, wish, project, texts, outlines, sets, links, &order)
+    read_from_order(alloc, query, project, texts, outlines, sets, links, &order)
 }
 
 /// A project with its files in no order yet, by the libraries that their units see.
-fn seen_project(
+fn read_from_visible(
     alloc: Global,
-    wish: &Wish,
+    query: &Query,
     project: Project,
     texts: TextList,
     outlines: &Outlines,
@@ -401,19 +419,19 @@ fn seen_project(
     requires seen { (scans : List Scan) → AreOutlinesOf texts scans outlines.now →
         AreVisible project.files texts scans sets.now }
     ensures reading { (scans : List Scan) → AreOutlinesOf texts scans outlines.now →
-        LeadsTo (then_read (linked_reading wish.now project texts scans)
+        LeadsTo (then_read (linked_reading query.now project texts scans)
         (links_of project texts scans)) result }
     ensures cause { (count : ℕ) → ReadCounts result count count }
 {
     let links = links_of(alloc, &project, &texts, outlines, sets)?;
-    linked_project(alloc, wish, project, texts, outlines, sets, links)
+    read_from_links(alloc, query, project, texts, outlines, sets, links)
 }
 
-/// A project of these texts, with the outlines of its files. Texts exist once: they are lent until it is known what depends
+/// A project of these texts, with the outlines of its files. Texts exist once: they are borrowed until it is known what depends
 /// on what and which tests there are, and then moved into the graph.
-pub(crate) fn scanned_project(
+pub(crate) fn read_from_outlines(
     alloc: Global,
-    wish: &Wish,
+    query: &Query,
     project: Project,
     texts: TextList,
     outlines: &Outlines,
@@ -423,12 +441,12 @@ pub(crate) fn scanned_project(
     requires texts { FitTexts project.files texts }
     requires outlined { AreOutlined texts outlines.now }
     ensures reading { (scans : List Scan) → AreOutlinesOf texts scans outlines.now →
-        LeadsTo (scanned_reading wish.now project texts scans) result }
+        LeadsTo (scanned_reading query.now project texts scans) result }
     ensures cause { (count : ℕ) → ReadCounts result count count }
 {
     if project.listed {
-        return listed_project(alloc, wish, project, texts, outlines);
+        return read_listed(alloc, query, project, texts, outlines);
     }
     let sets = visible_sets(alloc, &project, &texts, outlines)?;
-    seen_project(alloc, wish, project, texts, outlines, &sets)
+    read_from_visible(alloc, query, project, texts, outlines, &sets)
 }

@@ -2,7 +2,7 @@
 
 ghost use Rattle.std.specs.Prelude.{◌≡◌, ◌≤◌, ℕ, length, IfOk};
 ghost use Rattle.vhdl_spec.specs.Units.{AreTokensOf, roles_of};
-ghost use Rattle.order_spec.specs.LinkedGraph.{FitTexts};
+ghost use Rattle.order.specs.LinkedGraph.{FitTexts};
 ghost use Rattle.project_reading.specs.Sources.{ReadCounts};
 ghost use Rattle.project_reading.specs.Scanning.{GivesOutlines, GivesScan};
 
@@ -14,7 +14,7 @@ use base::{
 use base_outcomes::Refusal;
 use std::alloc::Global;
 use vhdl_lex::{no_tokens, scan_with_roles};
-use vhdl_outlines::Outlines;
+use vhdl_outline::Outlines;
 use vhdl_units::outline;
 
 /// A refusal of a file for a lexical fault.

@@ -2,7 +2,7 @@
 
 ghost use Rattle.std.specs.Prelude.{◌≡◌, ◌+◌, ◌≤◌, ◌∷◌, [], length, ℕ, IfOk};
 ghost use Rattle.outside.specs.Trees.{read_end};
-ghost use Rattle.order_spec.specs.LinkedGraph.{FitTexts};
+ghost use Rattle.order.specs.LinkedGraph.{FitTexts};
 ghost use Rattle.project_reading.specs.Reading.{text_after, text_of, texts_of};
 ghost use Rattle.project_reading.specs.Sources.{Gives, ReadCounts};
 ghost use Rattle.project_reading.specs.Asked.{file_paths, AsksInOrder};

@@ -12,37 +12,37 @@ use Rattle.base.specs.Projects.{IsProject}
 use Rattle.base.proofs.GraphPrefixes.{IsGraph-prefix}
 use Rattle.base.specs.PresentGraph.{below, listed_entry, listed_from, listed}
 use Rattle.base.proofs.Below.{length-below, get_or-below}
-use Rattle.order_spec.specs.LinkedGraph.{FitTexts}
+use Rattle.order.specs.LinkedGraph.{FitTexts}
 use Rattle.base.specs.declared.limits.TheConstants.{FILE_LIMIT, TEXT_LIMIT}
 
-pub listed_no_text : (place : ℕ) (files : List ProjectFile) → listed_from place files [] ≡ []
+pub listed_no_text : (rank : ℕ) (files : List ProjectFile) → listed_from rank files [] ≡ []
 unfolding listed_from
-listed_no_text place [] = refl
-listed_no_text place (file ∷ files) = refl
+listed_no_text rank [] = refl
+listed_no_text rank (file ∷ files) = refl
 
-pub listed_from-append : (place : ℕ) (files : List ProjectFile) (xs ys : List (List ℕ)) → listed_from place files (xs ++ ys) ≡ listed_from place files xs ++ listed_from (place + length xs) (drop (length xs) files) ys
+pub listed_from-append : (rank : ℕ) (files : List ProjectFile) (xs ys : List (List ℕ)) → listed_from rank files (xs ++ ys) ≡ listed_from rank files xs ++ listed_from (rank + length xs) (drop (length xs) files) ys
 unfolding listed_from
-listed_from-append place files [] ys = rw (listed_no_text, add-zero) refl
-listed_from-append place [] (x ∷ xs) ys = refl
-listed_from-append place (file ∷ files) (x ∷ xs) ys =
-    let same : suc place + length xs ≡ place + suc (length xs) = omega arith in
-    ap (λ (entries : List Entry). listed_entry place file x ∷ entries) (listed_from-append (suc place) files xs ys
-    ∙ ap (λ (n : ℕ). listed_from (suc place) files xs ++ listed_from n (drop (length xs) files) ys) same)
+listed_from-append rank files [] ys = rw (listed_no_text, add-zero) refl
+listed_from-append rank [] (x ∷ xs) ys = refl
+listed_from-append rank (file ∷ files) (x ∷ xs) ys =
+    let same : suc rank + length xs ≡ rank + suc (length xs) = omega arith in
+    ap (λ (entries : List Entry). listed_entry rank file x ∷ entries) (listed_from-append (suc rank) files xs ys
+    ∙ ap (λ (n : ℕ). listed_from (suc rank) files xs ++ listed_from n (drop (length xs) files) ys) same)
 
-pub length-listed_from : (place : ℕ) (files : List ProjectFile) (texts : List (List ℕ)) → length texts ≤ length files → length (listed_from place files texts) ≡ length texts
+pub length-listed_from : (rank : ℕ) (files : List ProjectFile) (texts : List (List ℕ)) → length texts ≤ length files → length (listed_from rank files texts) ≡ length texts
 unfolding listed_from
-length-listed_from place files [] le = ap length (listed_no_text place files)
-length-listed_from place [] (text ∷ texts) le = absurd (omega arith)
-length-listed_from place (file ∷ files) (text ∷ texts) le = ap suc (length-listed_from (suc place) files texts (omega arith))
+length-listed_from rank files [] le = ap length (listed_no_text rank files)
+length-listed_from rank [] (text ∷ texts) le = absurd (omega arith)
+length-listed_from rank (file ∷ files) (text ∷ texts) le = ap suc (length-listed_from (suc rank) files texts (omega arith))
 
-pub get_or-listed_from : (place : ℕ) (files : List ProjectFile) (texts : List (List ℕ)) (i : ℕ) (d : Entry) (f : ProjectFile) (t : List ℕ) → length texts ≤ length files → i < length texts → get_or (listed_from place files texts) i d ≡ listed_entry (place + i) (get_or files i f) (get_or texts i t)
+pub get_or-listed_from : (rank : ℕ) (files : List ProjectFile) (texts : List (List ℕ)) (i : ℕ) (d : Entry) (f : ProjectFile) (t : List ℕ) → length texts ≤ length files → i < length texts → get_or (listed_from rank files texts) i d ≡ listed_entry (rank + i) (get_or files i f) (get_or texts i t)
 unfolding listed_from
-get_or-listed_from place files [] i d f t le lt = absurd (omega arith)
-get_or-listed_from place [] (text ∷ texts) i d f t le lt = absurd (omega arith)
-get_or-listed_from place (file ∷ files) (text ∷ texts) zero d f t le lt = ap (λ (n : ℕ). listed_entry n file text) (omega arith)
-get_or-listed_from place (file ∷ files) (text ∷ texts) (suc i) d f t le lt =
-    let same : suc place + i ≡ place + suc i = omega arith in
-    get_or-listed_from (suc place) files texts i d f t (omega arith) (omega arith) ∙ ap (λ (n : ℕ). listed_entry n (get_or files i f) (get_or texts i t)) same
+get_or-listed_from rank files [] i d f t le lt = absurd (omega arith)
+get_or-listed_from rank [] (text ∷ texts) i d f t le lt = absurd (omega arith)
+get_or-listed_from rank (file ∷ files) (text ∷ texts) zero d f t le lt = ap (λ (n : ℕ). listed_entry n file text) (omega arith)
+get_or-listed_from rank (file ∷ files) (text ∷ texts) (suc i) d f t le lt =
+    let same : suc rank + i ≡ rank + suc i = omega arith in
+    get_or-listed_from (suc rank) files texts i d f t (omega arith) (omega arith) ∙ ap (λ (n : ℕ). listed_entry n (get_or files i f) (get_or texts i t)) same
 
 -- one more file
 pub listed-more : (files : List ProjectFile) (texts : List (List ℕ)) (text : List ℕ) (f : ProjectFile) → length texts < length files → listed files (texts ++ text ∷ []) ≡ listed files texts ++ listed_entry (length texts) (get_or files (length texts) f) text ∷ []
@@ -54,13 +54,13 @@ listed-more files texts text f lt =
     ∙ ap (λ (rest : List ProjectFile). listed files texts ++ listed_from (length texts) rest (text ∷ [])) (drop_more files (length texts) f lt)
     ∙ ap (λ (rest : List Entry). listed files texts ++ listed_entry (length texts) (get_or files (length texts) f) text ∷ rest) (listed_no_text (suc (length texts)) (drop (length texts + 1) files))
 
-text_sum : (place : ℕ) (files : List ProjectFile) (texts : List (List ℕ)) → sum_by (λ (e : Entry). length e.text) (listed_from place files texts) ≤ sum_by (λ (text : List ℕ). length text) texts
+text_sum : (rank : ℕ) (files : List ProjectFile) (texts : List (List ℕ)) → sum_by (λ (e : Entry). length e.text) (listed_from rank files texts) ≤ sum_by (λ (text : List ℕ). length text) texts
 unfolding listed_from
-text_sum place files [] = rw listed_no_text (omega arith)
-text_sum place [] (text ∷ texts) = omega arith
-text_sum place (file ∷ files) (text ∷ texts) =
-    rw (sum_by-cons (λ (e : Entry). length e.text) (listed_entry place file text) (listed_from (suc place) files texts), sum_by-cons (λ (t : List ℕ). length t) text texts)
-    (omega (arith, text_sum (suc place) files texts))
+text_sum rank files [] = rw listed_no_text (omega arith)
+text_sum rank [] (text ∷ texts) = omega arith
+text_sum rank (file ∷ files) (text ∷ texts) =
+    rw (sum_by-cons (λ (e : Entry). length e.text) (listed_entry rank file text) (listed_from (suc rank) files texts), sum_by-cons (λ (t : List ℕ). length t) text texts)
+    (omega (arith, text_sum (suc rank) files texts))
 
 module _ (project : Project) (texts : List (List ℕ)) (is : IsProject project) (few : length project.files ≤ FILE_LIMIT) (are : FitTexts project.files texts) where
   count : length (listed project.files texts) ≡ length project.files
@@ -114,13 +114,13 @@ module _ (project : Project) (texts : List (List ℕ)) (is : IsProject project) 
       (subst IsGraph (ap (listed project.files) (sym whole) ∙ listed_from-append 0 project.files (done ++ text ∷ []) more) listed_is_graph)
 
   -- the file at the position after those that are done
-  pub next_file : (files : List ProjectFile) (done more : List (List ℕ)) (text : List ℕ) (graph : List Entry) (place : ℕ) → files ≡ project.files → graph ≡ listed files done → done ++ (text ∷ more) ≡ texts → place ≡ length graph
-      → (place < length files) × ((file : ProjectFile) (entry : Entry) → file ≡ get_or files place file → entry ≡ listed_entry place file text → IsGraph (graph ++ entry ∷ []) × (graph ++ entry ∷ [] ≡ listed files (done ++ text ∷ [])))
-  next_file files done more text graph place same so_far whole at =
+  pub next_file : (files : List ProjectFile) (done more : List (List ℕ)) (text : List ℕ) (graph : List Entry) (rank : ℕ) → files ≡ project.files → graph ≡ listed files done → done ++ (text ∷ more) ≡ texts → rank ≡ length graph
+      → (rank < length files) × ((file : ProjectFile) (entry : Entry) → file ≡ get_or files rank file → entry ≡ listed_entry rank file text → IsGraph (graph ++ entry ∷ []) × (graph ++ entry ∷ [] ≡ listed files (done ++ text ∷ [])))
+  next_file files done more text graph rank same so_far whole at =
       let all : length files ≡ length project.files = ap length same in
       let sizes : length done + suc (length more) ≡ length texts = sym (length-append done (text ∷ more)) ∙ ap length whole in
       let count_done : length graph ≡ length done = ap length so_far ∙ length-listed_from 0 files done (omega (arith, are.each)) in
-      let here : place ≡ length done = at ∙ count_done in
+      let here : rank ≡ length done = at ∙ count_done in
       let low : length done < length files = omega (arith, are.each) in (
         omega arith,
         λ file entry is_file is_entry.

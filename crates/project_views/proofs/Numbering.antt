@@ -6,30 +6,30 @@ use Rattle.std.proofs.lemmas.Bool.{cases_lt, eq-eqb, ne_eqb}
 use Rattle.std.proofs.lemmas.List.{get_or_default, get_or-set_same, get_or-set_other}
 use Rattle.std.proofs.lemmas.List.Sums.{position_or_len_is, sum_by-cons, sum_by-take-drop}
 use Rattle.project_views.proofs.Rising.{before_later}
-use Rattle.base.specs.View.{place_in}
+use Rattle.base.specs.View.{rank_in}
 use Rattle.project_views.specs.Numbers.{IsNumbered}
 
 module _ (positions : List ℕ) (rising : IsStrictlyIncreasing positions) where
   -- each position has its own number
-  pub place_at : (k d : ℕ) → k < length positions → place_in positions (get_or positions k d) ≡ k
-  place_at k d lt =
+  pub rank_at : (k d : ℕ) → k < length positions → rank_in positions (get_or positions k d) ≡ k
+  rank_at k d lt =
       let same : get_or positions k d ≡ get_or positions k 0 = get_or_default positions k d 0 lt in
       position_or_len_is (λ other. eqb other (get_or positions k d)) positions k 0 (omega arith)
       (λ j low. let less : get_or positions j 0 < get_or positions k 0 = before_later positions rising j k low lt in ne_eqb (get_or positions j 0) (get_or positions k d) (λ e. omega arith))
       (λ l. eq-eqb (get_or positions k 0) (get_or positions k d) (sym same))
 
-  pub place_of : (x : ℕ) (in_it : Contains positions x) → place_in positions x ≡ in_it.0
-  place_of x in_it = ap (place_in positions) (sym in_it.2) ∙ place_at in_it.0 x in_it.1
+  pub rank_of : (x : ℕ) (in_it : Contains positions x) → rank_in positions x ≡ in_it.0
+  rank_of x in_it = ap (rank_in positions) (sym in_it.2) ∙ rank_at in_it.0 x in_it.1
 
-  pub place_within : (x : ℕ) → Contains positions x → place_in positions x < length positions
-  place_within x in_it = rw (place_of x in_it) in_it.1
+  pub rank_within : (x : ℕ) → Contains positions x → rank_in positions x < length positions
+  rank_within x in_it = rw (rank_of x in_it) in_it.1
 
-  pub get_or-place : (x d : ℕ) → Contains positions x → get_or positions (place_in positions x) d ≡ x
-  get_or-place x d in_it = ap (λ (k : ℕ). get_or positions k d) (place_of x in_it) ∙ get_or_default positions in_it.0 d x in_it.1 ∙ in_it.2
+  pub get_or-rank : (x d : ℕ) → Contains positions x → get_or positions (rank_in positions x) d ≡ x
+  get_or-rank x d in_it = ap (λ (k : ℕ). get_or positions k d) (rank_of x in_it) ∙ get_or_default positions in_it.0 d x in_it.1 ∙ in_it.2
 
   -- a lower position has a lower number
-  pub place_lower : (x y : ℕ) → Contains positions x → Contains positions y → x < y → place_in positions x < place_in positions y
-  place_lower x y in_x in_y less =
+  pub rank_lower : (x y : ℕ) → Contains positions x → Contains positions y → x < y → rank_in positions x < rank_in positions y
+  rank_lower x y in_x in_y less =
       let at_x : get_or positions in_x.0 0 ≡ x = get_or_default positions in_x.0 0 x in_x.1 ∙ in_x.2 in
       let at_y : get_or positions in_y.0 0 ≡ y = get_or_default positions in_y.0 0 y in_y.1 ∙ in_y.2 in
       let low : in_x.0 < in_y.0 = elim (cases_lt in_x.0 in_y.0) [
@@ -39,7 +39,7 @@ module _ (positions : List ℕ) (rising : IsStrictlyIncreasing positions) where
           | inr le ↦ let e : in_x.0 ≡ in_y.0 = omega arith in absurd (omega (arith, ap (λ (k : ℕ). get_or positions k 0) e))
         ]
       ] in
-      rw (place_of x in_x, place_of y in_y) low
+      rw (rank_of x in_x, rank_of y in_y) low
 
 sum_drop : {X : Type 0} (f : X → ℕ) (xs : List X) (low p : ℕ) → low ≤ p → sum_by f (drop p xs) ≤ sum_by f (drop low xs)
 sum_drop f xs zero p le = omega (arith, sum_by-take-drop f xs p)
@@ -68,12 +68,12 @@ sum_of_part f xs d positions rising within = sum_from f xs d 0 positions (λ k l
 
 -- one more position has its number in the table
 pub numbered_more : (table positions : List ℕ) (n : ℕ) → IsStrictlyIncreasing positions → All (λ p. p < length table) positions → n < length positions → IsNumbered table positions n → IsNumbered (set table (get_or positions n 0) n) positions (n + 1)
-numbered_more table positions n rising within lt numbered place low =
-    elim (cases_lt place n) [
+numbered_more table positions n rising within lt numbered rank low =
+    elim (cases_lt rank n) [
       | inl l ↦
-          let less : get_or positions place 0 < get_or positions n 0 = before_later positions rising place n l lt in
-          get_or-set_other table (get_or positions n 0) (get_or positions place 0) n 0 (λ e. omega arith) ∙ numbered place l
+          let less : get_or positions rank 0 < get_or positions n 0 = before_later positions rising rank n l lt in
+          get_or-set_other table (get_or positions n 0) (get_or positions rank 0) n 0 (λ e. omega arith) ∙ numbered rank l
       | inr l ↦
-          let same : place ≡ n = omega arith in
+          let same : rank ≡ n = omega arith in
           ap (λ (k : ℕ). get_or (set table (get_or positions n 0) n) (get_or positions k 0) 0) same ∙ get_or-set_same table (get_or positions n 0) n 0 (within n 0 lt) ∙ sym same
     ]

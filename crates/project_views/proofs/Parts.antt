@@ -7,9 +7,9 @@ use Rattle.std.proofs.lemmas.List.Sums.{sum_by-cons}
 use Rattle.std.proofs.lemmas.Option.{slice_get-get_or}
 use Rattle.base.specs.declared.graph.Entry.{Entry}
 use Rattle.base.specs.Graphs.{IsEntryAt, IsGraph}
-use Rattle.base.specs.View.{place_in, renumbered, part}
+use Rattle.base.specs.View.{rank_in, renumbered, part}
 use Rattle.project_views.specs.Parts.{IsPart}
-use Rattle.project_views.proofs.Numbering.{place_of, place_within, get_or-place, place_lower, sum_of_part}
+use Rattle.project_views.proofs.Numbering.{rank_of, rank_within, get_or-rank, rank_lower, sum_of_part}
 use Rattle.project_views.proofs.Rising.{before_later, few}
 
 pub no_entry : Entry
@@ -49,8 +49,8 @@ module _ (graph : List Entry) (positions : List ℕ) (is : IsPart graph position
   get_or-part k d lt = ap (λ (es : List Entry). get_or es k d) (part_is graph positions d low) ∙ get_or-map (λ p. renumbered positions (get_or graph p d)) positions k 0 d lt
 
   -- the file with the new number of a position
-  pub at_place : (p : ℕ) (d : Entry) → Contains positions p → get_or (part graph positions) (place_in positions p) d ≡ renumbered positions (get_or graph p d)
-  at_place p d in_it = get_or-part (place_in positions p) d (place_within positions is.rising p in_it) ∙ ap (λ (n : ℕ). renumbered positions (get_or graph n d)) (get_or-place positions is.rising p 0 in_it)
+  pub at_rank : (p : ℕ) (d : Entry) → Contains positions p → get_or (part graph positions) (rank_in positions p) d ≡ renumbered positions (get_or graph p d)
+  at_rank p d in_it = get_or-part (rank_in positions p) d (rank_within positions is.rising p in_it) ∙ ap (λ (n : ℕ). renumbered positions (get_or graph n d)) (get_or-rank positions is.rising p 0 in_it)
 
   in_positions : (k : ℕ) (d : Entry) → k < length positions → All (Contains positions) (get_or graph (get_or positions k 0) d).deps
   in_positions k d lt = is.closed k 0 lt d
@@ -61,31 +61,31 @@ module _ (graph : List Entry) (positions : List ℕ) (is : IsPart graph position
         let p : ℕ = get_or positions k 0 in
         let old : IsEntryAt graph p (get_or graph p d) = valid.each p d (low k lt) in
         let deps : List ℕ = (get_or graph p d).deps in
-        let count : length (map (place_in positions) deps) ≡ length deps = length-map deps (place_in positions) in
+        let count : length (map (rank_in positions) deps) ≡ length deps = length-map deps (rank_in positions) in
         record {
           rising = λ i l.
               let a : i < length deps = omega arith in
               let b : i + 1 < length deps = omega arith in
-              rw (get_or-map (place_in positions) deps i 0 0 a, get_or-map (place_in positions) deps (i + 1) 0 0 b)
-              (place_lower positions is.rising (get_or deps i 0) (get_or deps (i + 1) 0) (in_positions k d lt i 0 a) (in_positions k d lt (i + 1) 0 b) (old.rising i b));
+              rw (get_or-map (rank_in positions) deps i 0 0 a, get_or-map (rank_in positions) deps (i + 1) 0 0 b)
+              (rank_lower positions is.rising (get_or deps i 0) (get_or deps (i + 1) 0) (in_positions k d lt i 0 a) (in_positions k d lt (i + 1) 0 b) (old.rising i b));
           before = λ i e l.
               let a : i < length deps = omega arith in
               let here : Contains positions p = (k, lt, get_or_default positions k p 0 lt) in
-              let less : place_in positions (get_or deps i 0) < place_in positions p = place_lower positions is.rising (get_or deps i 0) p (in_positions k d lt i 0 a) here (old.before i 0 a) in
-              rw (get_or-map (place_in positions) deps i 0 e a) (omega (arith, place_of positions is.rising p here));
+              let less : rank_in positions (get_or deps i 0) < rank_in positions p = rank_lower positions is.rising (get_or deps i 0) p (in_positions k d lt i 0 a) here (old.before i 0 a) in
+              rw (get_or-map (rank_in positions) deps i 0 e a) (omega (arith, rank_of positions is.rising p here));
           closed = λ i e l other.
               let a : i < length deps = omega arith in
               let q : ℕ = get_or deps i 0 in
-              let at : get_or (map (place_in positions) deps) i e ≡ place_in positions q = get_or-map (place_in positions) deps i 0 e a in
+              let at : get_or (map (rank_in positions) deps) i e ≡ rank_in positions q = get_or-map (rank_in positions) deps i 0 e a in
               let inner : List ℕ = (get_or graph q other).deps in
-              subst (λ (n : ℕ). All (Contains (map (place_in positions) deps)) (get_or (part graph positions) n other).deps) (sym at)
-              (subst (λ (entry : Entry). All (Contains (map (place_in positions) deps)) entry.deps) (sym (at_place q other (in_positions k d lt i 0 a)))
+              subst (λ (n : ℕ). All (Contains (map (rank_in positions) deps)) (get_or (part graph positions) n other).deps) (sym at)
+              (subst (λ (entry : Entry). All (Contains (map (rank_in positions) deps)) entry.deps) (sym (at_rank q other (in_positions k d lt i 0 a)))
               (λ j c m.
-              let b : j < length inner = omega (arith, length-map inner (place_in positions)) in
+              let b : j < length inner = omega (arith, length-map inner (rank_in positions)) in
               let holds : Contains deps (get_or inner j 0) = old.closed i 0 a other j 0 b in
-              let here : get_or (map (place_in positions) inner) j c ≡ place_in positions (get_or inner j 0) = get_or-map (place_in positions) inner j 0 c b in
-              subst (Contains (map (place_in positions) deps)) (sym here)
-              (holds.0, omega (arith, holds.1, count), get_or-map (place_in positions) deps holds.0 (get_or inner j 0) (place_in positions (get_or inner j 0)) holds.1 ∙ ap (place_in positions) holds.2)));
+              let here : get_or (map (rank_in positions) inner) j c ≡ rank_in positions (get_or inner j 0) = get_or-map (rank_in positions) inner j 0 c b in
+              subst (Contains (map (rank_in positions) deps)) (sym here)
+              (holds.0, omega (arith, holds.1, count), get_or-map (rank_in positions) deps holds.0 (get_or inner j 0) (rank_in positions (get_or inner j 0)) holds.1 ∙ ap (rank_in positions) holds.2)));
           name = old.name;
           command = old.command;
           text = old.text;

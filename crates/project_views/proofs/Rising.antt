@@ -10,13 +10,13 @@ module _ (positions : List ℕ) (rising : IsStrictlyIncreasing positions) where
   before_later i j a b = AllPairs-from_increasing positions rising i j 0 a b
 
   -- a position is at least its number
-  pub place_le : (k : ℕ) → k < length positions → k ≤ get_or positions k 0
-  place_le zero lt = omega arith
-  place_le (suc k) lt = omega (arith, place_le k (omega arith), before_later k (suc k) (omega arith) lt)
+  pub rank_le : (k : ℕ) → k < length positions → k ≤ get_or positions k 0
+  rank_le zero lt = omega arith
+  rank_le (suc k) lt = omega (arith, rank_le k (omega arith), before_later k (suc k) (omega arith) lt)
 
   -- so there are no more positions than numbers below a bound
   pub few : (n : ℕ) → All (λ p. p < n) positions → length positions ≤ n
   few n within = elim (cases_lt n (length positions)) [
-    | inl l ↦ absurd (omega (arith, place_le n l, within n 0 l))
+    | inl l ↦ absurd (omega (arith, rank_le n l, within n 0 l))
     | inr le ↦ le
   ]

@@ -9,10 +9,10 @@ use Rattle.std.proofs.lemmas.Option.{slice_get-get_or}
 use Rattle.base.specs.declared.graph.Entry.{Entry}
 use Rattle.base.specs.Graphs.{IsGraph}
 use Rattle.base.specs.View.{IsView}
-use Rattle.base.specs.View.{place_in, renumbered, part, viewed, view}
-use Rattle.project_views.proofs.Numbering.{place_at, place_of, place_within, place_lower}
+use Rattle.base.specs.View.{rank_in, renumbered, part, viewed, view}
+use Rattle.project_views.proofs.Numbering.{rank_at, rank_of, rank_within, rank_lower}
 use Rattle.project_views.specs.Parts.{IsPart}
-use Rattle.project_views.proofs.Parts.{no_entry, map_same, map_map, part_is, length-part, get_or-part, at_place, part_is_graph}
+use Rattle.project_views.proofs.Parts.{no_entry, map_same, map_map, part_is, length-part, get_or-part, at_rank, part_is_graph}
 
 pub viewed_is : (graph : List Entry) (at : ℕ) (d : Entry) → at < length graph → viewed graph at ≡ (get_or graph at d).deps ++ at ∷ []
 unfolding viewed
@@ -66,40 +66,40 @@ module _ (graph : List Entry) (at : ℕ) (valid : IsGraph graph) (lt : at < leng
 -- a part of a part is the part of the whole
 module _ (graph : List Entry) (outer inner : List ℕ) (is_outer : IsPart graph outer) (is_inner : IsPart graph inner) (held : All (Contains outer) inner) where
   abbrev both : List ℕ
-  both = map (place_in outer) inner
+  both = map (rank_in outer) inner
 
   both_rising : IsStrictlyIncreasing both
   both_rising i l =
-      let a : i < length inner = omega (arith, length-map inner (place_in outer)) in
-      let b : i + 1 < length inner = omega (arith, length-map inner (place_in outer)) in
-      rw (get_or-map (place_in outer) inner i 0 0 a, get_or-map (place_in outer) inner (i + 1) 0 0 b)
-      (place_lower outer is_outer.rising (get_or inner i 0) (get_or inner (i + 1) 0) (held i 0 a) (held (i + 1) 0 b) (is_inner.rising i b))
+      let a : i < length inner = omega (arith, length-map inner (rank_in outer)) in
+      let b : i + 1 < length inner = omega (arith, length-map inner (rank_in outer)) in
+      rw (get_or-map (rank_in outer) inner i 0 0 a, get_or-map (rank_in outer) inner (i + 1) 0 0 b)
+      (rank_lower outer is_outer.rising (get_or inner i 0) (get_or inner (i + 1) 0) (held i 0 a) (held (i + 1) 0 b) (is_inner.rising i b))
 
-  number_twice : (x : ℕ) → Contains inner x → place_in both (place_in outer x) ≡ place_in inner x
+  number_twice : (x : ℕ) → Contains inner x → rank_in both (rank_in outer x) ≡ rank_in inner x
   number_twice x in_it =
-      let at : get_or both in_it.0 (place_in outer x) ≡ place_in outer x = get_or-map (place_in outer) inner in_it.0 x (place_in outer x) in_it.1 ∙ ap (place_in outer) in_it.2 in
-      place_of both both_rising (place_in outer x) (in_it.0, omega (arith, in_it.1, length-map inner (place_in outer)), at) ∙ sym (place_of inner is_inner.rising x in_it)
+      let at : get_or both in_it.0 (rank_in outer x) ≡ rank_in outer x = get_or-map (rank_in outer) inner in_it.0 x (rank_in outer x) in_it.1 ∙ ap (rank_in outer) in_it.2 in
+      rank_of both both_rising (rank_in outer x) (in_it.0, omega (arith, in_it.1, length-map inner (rank_in outer)), at) ∙ sym (rank_of inner is_inner.rising x in_it)
 
-  renumber_twice : (xs : List ℕ) → All (Contains inner) xs → map (place_in both) (map (place_in outer) xs) ≡ map (place_in inner) xs
+  renumber_twice : (xs : List ℕ) → All (Contains inner) xs → map (rank_in both) (map (rank_in outer) xs) ≡ map (rank_in inner) xs
   renumber_twice xs in_it =
-      map_map (place_in both) (place_in outer) xs ∙ map_same (λ x. place_in both (place_in outer x)) (place_in inner) xs 0 (λ k l. number_twice (get_or xs k 0) (in_it k 0 l))
+      map_map (rank_in both) (rank_in outer) xs ∙ map_same (λ x. rank_in both (rank_in outer x)) (rank_in inner) xs 0 (λ k l. number_twice (get_or xs k 0) (in_it k 0 l))
 
   both_within : (j : ℕ) → j < length both → get_or both j 0 < length (part graph outer)
   both_within j l =
-      let a : j < length inner = omega (arith, length-map inner (place_in outer)) in
-      rw (get_or-map (place_in outer) inner j 0 0 a, length-part graph outer is_outer) (place_within outer is_outer.rising (get_or inner j 0) (held j 0 a))
+      let a : j < length inner = omega (arith, length-map inner (rank_in outer)) in
+      rw (get_or-map (rank_in outer) inner j 0 0 a, length-part graph outer is_outer) (rank_within outer is_outer.rising (get_or inner j 0) (held j 0 a))
 
-  one_file : (k : ℕ) → k < length inner → renumbered both (get_or (part graph outer) (place_in outer (get_or inner k 0)) no_entry) ≡ renumbered inner (get_or graph (get_or inner k 0) no_entry)
+  one_file : (k : ℕ) → k < length inner → renumbered both (get_or (part graph outer) (rank_in outer (get_or inner k 0)) no_entry) ≡ renumbered inner (get_or graph (get_or inner k 0) no_entry)
   one_file k l =
       let entry : Entry = get_or graph (get_or inner k 0) no_entry in
-      ap (renumbered both) (at_place graph outer is_outer (get_or inner k 0) no_entry (held k 0 l))
+      ap (renumbered both) (at_rank graph outer is_outer (get_or inner k 0) no_entry (held k 0 l))
       ∙ ap (λ (ds : List ℕ). record { name = entry.name; command = entry.command; text = entry.text; deps = ds }) (renumber_twice entry.deps (is_inner.closed k 0 l no_entry))
 
   pub part_of_part : part (part graph outer) both ≡ part graph inner
   part_of_part =
       part_is (part graph outer) both no_entry both_within
-      ∙ map_map (λ p. renumbered both (get_or (part graph outer) p no_entry)) (place_in outer) inner
-      ∙ map_same (λ q. renumbered both (get_or (part graph outer) (place_in outer q) no_entry)) (λ q. renumbered inner (get_or graph q no_entry)) inner 0 one_file
+      ∙ map_map (λ p. renumbered both (get_or (part graph outer) p no_entry)) (rank_in outer) inner
+      ∙ map_same (λ q. renumbered both (get_or (part graph outer) (rank_in outer q) no_entry)) (λ q. renumbered inner (get_or graph q no_entry)) inner 0 one_file
       ∙ sym (part_is graph inner no_entry (λ k l. is_inner.within k 0 l))
 
 -- the view of a file within a view is its view in the graph
@@ -126,13 +126,13 @@ module _ (graph : List Entry) (at k : ℕ) (valid : IsGraph graph) (lt : at < le
         | inr a ↦ let e : length entry.deps ≡ j = omega (arith, length-append entry.deps (p ∷ [])) in rw (get_or_at entry.deps p [] c j e) p_in
       ]
 
-  same_positions : viewed (view graph at) k ≡ map (place_in (viewed graph at)) (viewed graph p)
+  same_positions : viewed (view graph at) k ≡ map (rank_in (viewed graph at)) (viewed graph p)
   same_positions =
       viewed_is (view graph at) k no_entry within_view
       ∙ ap (λ (e : Entry). e.deps ++ k ∷ []) (get_or-part graph (viewed graph at) is k no_entry l)
-      ∙ ap (λ (n : ℕ). map (place_in (viewed graph at)) entry.deps ++ n ∷ []) (sym (place_at (viewed graph at) is.rising k 0 l))
-      ∙ sym (map_push (place_in (viewed graph at)) entry.deps p)
-      ∙ ap (map (place_in (viewed graph at))) (sym (viewed_is graph p no_entry (is.within k 0 l)))
+      ∙ ap (λ (n : ℕ). map (rank_in (viewed graph at)) entry.deps ++ n ∷ []) (sym (rank_at (viewed graph at) is.rising k 0 l))
+      ∙ sym (map_push (rank_in (viewed graph at)) entry.deps p)
+      ∙ ap (map (rank_in (viewed graph at))) (sym (viewed_is graph p no_entry (is.within k 0 l)))
 
   pub view_of_view : view (view graph at) k ≡ view graph p
   view_of_view =
@@ -158,16 +158,16 @@ module _ (graph : List Entry) (at : ℕ) (valid : IsGraph graph) (lt : at < leng
   is_part = viewed_is_part graph at valid lt
 
   -- the dependencies of the last file of a view, by their numbers
-  number_at : (last place : ℕ) (other : Entry) → last + 1 ≡ length (view graph at) → place < last → Contains (get_or (view graph at) last other).deps place
-  number_at last place other is_last low =
+  number_at : (last rank : ℕ) (other : Entry) → last + 1 ≡ length (view graph at) → rank < last → Contains (get_or (view graph at) last other).deps rank
+  number_at last rank other is_last low =
       let count : length own_deps ≡ last = omega (arith, is_last, length-part graph (viewed graph at) is_part, length-viewed graph at no_entry lt) in
       let l : last < length (viewed graph at) = omega (arith, is_last, length-part graph (viewed graph at) is_part) in
       let here : get_or (view graph at) last other ≡ renumbered (viewed graph at) (get_or graph at no_entry) =
       get_or-part graph (viewed graph at) is_part last other l ∙ ap (λ (n : ℕ). renumbered (viewed graph at) (get_or graph n other)) (at_last graph at last valid lt is_last) ∙ ap (renumbered (viewed graph at)) (get_or_default graph at other no_entry lt) in
-      let a : place < length own_deps = omega arith in
-      let position : get_or own_deps place 0 ≡ get_or (viewed graph at) place 0 = sym (ap (λ (ps : List ℕ). get_or ps place 0) (viewed_is graph at no_entry lt) ∙ get_or_append_left own_deps (at ∷ []) 0 place a) in
-      subst (λ (e : Entry). Contains e.deps place) (sym here)
-      (place, omega (arith, length-map own_deps (place_in (viewed graph at))), get_or-map (place_in (viewed graph at)) own_deps place 0 place a ∙ ap (place_in (viewed graph at)) position ∙ place_at (viewed graph at) is_part.rising place 0 (omega arith))
+      let a : rank < length own_deps = omega arith in
+      let position : get_or own_deps rank 0 ≡ get_or (viewed graph at) rank 0 = sym (ap (λ (ps : List ℕ). get_or ps rank 0) (viewed_is graph at no_entry lt) ∙ get_or_append_left own_deps (at ∷ []) 0 rank a) in
+      subst (λ (e : Entry). Contains e.deps rank) (sym here)
+      (rank, omega (arith, length-map own_deps (rank_in (viewed graph at))), get_or-map (rank_in (viewed graph at)) own_deps rank 0 rank a ∙ ap (rank_in (viewed graph at)) position ∙ rank_at (viewed graph at) is_part.rising rank 0 (omega arith))
 
   pub view_is_whole : IsView (view graph at)
   view_is_whole = record { some = omega (arith, length-part graph (viewed graph at) is_part, length-viewed graph at no_entry lt); whole = number_at }

@@ -3,7 +3,7 @@
 ghost use Rattle.std.specs.Prelude.{◌≡◌, ℕ, List, ◌<◌, length, map, All, Contains};
 ghost use Rattle.base.specs.declared.graph.Entry.{Entry};
 ghost use Rattle.base.specs.Graphs.{IsGraph};
-ghost use Rattle.base.specs.View.{place_in, part, viewed};
+ghost use Rattle.base.specs.View.{rank_in, part, viewed};
 ghost use Rattle.project_views.specs.Parts.{IsPart};
 
 /// What holds of the files of a graph that depend on each other alone.
@@ -17,5 +17,5 @@ pub fn laws_of_parts()
     // and a part within a part, by its new numbers, is that part of the graph.
     ensures within { (graph : List Entry) (outer inner : List ℕ) → IsPart graph outer →
         IsPart graph inner → All (Contains outer) inner →
-        part (part graph outer) (map (place_in outer) inner) ≡ part graph inner }
+        part (part graph outer) (map (rank_in outer) inner) ≡ part graph inner }
 {}

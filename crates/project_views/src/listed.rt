@@ -3,7 +3,7 @@
 ghost use Rattle.std.specs.Prelude.{◌≡◌, ◌≤◌, length, All, sum, map, IfOk};
 ghost use Rattle.base.specs.Projects.{IsProject};
 ghost use Rattle.base.specs.PresentGraph.{below, listed_entry, listed};
-ghost use Rattle.order_spec.specs.LinkedGraph.{FitTexts};
+ghost use Rattle.order.specs.LinkedGraph.{FitTexts};
 
 use base::{Entry, FILE_LIMIT, Graph, NoMemory, Positions, Project, ProjectFile, Text, TextList};
 use std::alloc::Global;

@@ -14,7 +14,7 @@ use Rattle.base.specs.declared.graph.Entry.{Entry}
 use Rattle.base.specs.declared.child.Request.{Request}
 use Rattle.base.specs.declared.child.Exit.{Exit}
 use Rattle.base.specs.declared.child.Event.{Event}
-use Rattle.run_spec.specs.declared.marks.Mark.{Mark}
+use Rattle.run_spec.specs.declared.statuses.FileStatus.{FileStatus}
 use Rattle.base.specs.Graphs.{IsGraph}
 use Rattle.base.specs.PresentGraph.{below}
 use Rattle.base.proofs.Below.{get_or-below, length-below}
@@ -26,25 +26,25 @@ use Rattle.outside.specs.declared.records.StoreFault.{StoreFault}
 use Rattle.outside.specs.Phases.{IsOpening, IsBase, HasPhases, opened, committed}
 use Rattle.outside.proofs.MomentLaws.{follows_by, goes_follows, joined_follows}
 use Rattle.outside.proofs.PhaseLaws.{open_failed, open_done, empty_failed, empty_done, then_committed}
-use Rattle.run_spec.specs.ChildJournal.{Work, Lawful, book_of, artefact_after, exit_at, since, EachAfter}
+use Rattle.run_spec.specs.ChildJournal.{Work, Lawful, progress_of, artefact_after, exit_at, since, EachAfter}
 use Rattle.run_spec.specs.Commits.{work_of, commits}
-use Rattle.run_histories.specs.Histories.{Order, work_over, latest_over}
+use Rattle.run_spec.specs.Histories.{Order, work_over, latest_over}
 use Rattle.run_spec.specs.JournalParts.{test_part}
-use Rattle.run_spec.specs.Marks.{mark_of, mark_at, marks_of}
+use Rattle.run_spec.specs.Statuses.{status_of, status_at, statuses_of}
 use Rattle.run_spec.proofs.Journal.{since-added}
 use Rattle.run_spec.proofs.Parts.{build_parts}
 use Rattle.run_spec.proofs.Prefixes.{lawful_none}
-use Rattle.run_histories.proofs.RunSteps.{readable_since, no_commits}
+use Rattle.run_spec.proofs.RunSteps.{readable_since, no_commits}
 use Rattle.run_spec.proofs.Waiting.{waits_none}
 use Rattle.run_laws.proofs.SparedRuns.{same_latest}
-use Rattle.run_steps.specs.declared.fault.RunFault.{RunFault}
-use Rattle.run_steps.specs.declared.fault.RunFault.TheVariants as fault
-use Rattle.run_steps.specs.Faults.{fault_of, is_no_memory}
-use Rattle.build_loop.specs.Faults.{is_all_committed}
-use Rattle.build_loop.specs.Ran.{BuildRan, is_made, built_by}
-use Rattle.build_loop.specs.Requests.{lent_at}
+use Rattle.run_spec.specs.declared.fault.RunFault.{RunFault}
+use Rattle.run_spec.specs.declared.fault.RunFault.TheVariants as fault
+use Rattle.run_spec.specs.Faults.{fault_of, is_no_memory}
+use Rattle.run_build.specs.Faults.{is_all_committed}
+use Rattle.run_build.specs.Ran.{BuildRan, is_made, built_by}
+use Rattle.run_build.specs.Requests.{borrowed_at}
 use Rattle.run_build.specs.Orders.{IsDurablyRecorded}
-use Rattle.run_build.proofs.LentFiles.{lent_are}
+use Rattle.run_build.proofs.BorrowedFiles.{borrowed_are}
 use Rattle.run_build.specs.Building.{OpensStore, BuildsOver, has_risen}
 
 module _ (K : Type 0) (records_of : Image → List Record) (old new : Moments) where
@@ -102,7 +102,7 @@ not_opened records_of answer order why failed old new events none is sound follo
       lawful = lawful_none s;
       answered = tt;
       whole = tt;
-      marks = tt;
+      statuses = tt;
       recorded = tt;
       emptied = tt;
       follows = follows;
@@ -114,17 +114,17 @@ not_opened records_of answer order why failed old new events none is sound follo
     })
 
 -- a file with an artefact is marked as made
-made_mark : (keep_going : Bool) (exit : Option Exit) (artefact : Option (List ℕ)) → is_some artefact ≡ true → is_made (mark_of keep_going exit artefact) ≡ true
-made_mark keep_going None (Some artefact) is = refl
-made_mark keep_going (Some exit) (Some artefact) is = refl
-made_mark keep_going exit None is = absurd (false≢true is)
+made_status : (keep_going : Bool) (exit : Option Exit) (artefact : Option (List ℕ)) → is_some artefact ≡ true → is_made (status_of keep_going exit artefact) ≡ true
+made_status keep_going None (Some artefact) is = refl
+made_status keep_going (Some exit) (Some artefact) is = refl
+made_status keep_going exit None is = absurd (false≢true is)
 
-mark_there : (setting : Work) (events : List Event) (position : ℕ) → position < length setting.graph → slice_get (marks_of setting events) position ≡ Some (mark_at setting (book_of setting events).ends position)
-mark_there setting events position inside =
-    let mark : ℕ → Mark = mark_at setting (book_of setting events).ends in
+status_there : (setting : Work) (events : List Event) (position : ℕ) → position < length setting.graph → slice_get (statuses_of setting events) position ≡ Some (status_at setting (progress_of setting events).ends position)
+status_there setting events position inside =
+    let status : ℕ → FileStatus = status_at setting (progress_of setting events).ends in
     let here : slice_get (below (length setting.graph)) position ≡ Some position =
     slice_get-get_or (below (length setting.graph)) position 0 (subst (λ (n : ℕ). position < n) (sym (length-below (length setting.graph))) inside) ∙ ap (λ (p : ℕ). Some p) (get_or-below (length setting.graph) position 0 inside) in
-    slice_get-map mark (below (length setting.graph)) position ∙ ap (option_map mark) here
+    slice_get-map status (below (length setting.graph)) position ∙ ap (option_map status) here
 
 -- a store knows what whatever a stop can leave holds
 pub record KnowsDisk (records_of : Image → List Record) (latest_of : FileName → Option Record) (disk : DiskState) : Type 0 where
@@ -142,29 +142,29 @@ unfolding latest
 base_latest records_of true disk records name none = ap (latest name) none
 base_latest records_of false disk records name kept = same_latest name (records_of (reads_of disk)) records kept
 
-on_ok_if : (A : Type 0) (result : Result (List Mark) RunFault) → OnTrue (is_ok result) A → OnOk result A
-on_ok_if A (Ok marks) a = a
+on_ok_if : (A : Type 0) (result : Result (List FileStatus) RunFault) → OnTrue (is_ok result) A → OnOk result A
+on_ok_if A (Ok statuses) a = a
 on_ok_if A (Err why) a = tt
 
-if_ok_if : (P : List Mark → Type 0) (result : Result (List Mark) RunFault) → OnTrue (is_ok result) (IfOk result P) → IfOk result P
-if_ok_if P (Ok marks) a = a
+if_ok_if : (P : List FileStatus → Type 0) (result : Result (List FileStatus) RunFault) → OnTrue (is_ok result) (IfOk result P) → IfOk result P
+if_ok_if P (Ok statuses) a = a
 if_ok_if P (Err why) a = tt
 
-not_no_memory : (result : Result (List Mark) RunFault) → (result ≡ Err fault.NoMemory → ⊥) → is_no_memory (fault_of result) ≡ false
-not_no_memory (Ok marks) other = refl
+not_no_memory : (result : Result (List FileStatus) RunFault) → (result ≡ Err fault.NoMemory → ⊥) → is_no_memory (fault_of result) ≡ false
+not_no_memory (Ok statuses) other = refl
 not_no_memory (Err fault.NoMemory) other = absurd (other refl)
 not_no_memory (Err fault.StartFailed) other = refl
 not_no_memory (Err fault.ChildLost) other = refl
 not_no_memory (Err fault.DiskFailed) other = refl
 
-recorded_in_end : (records_of : Image → List Record) (setting : Work) (now : FileName → Option Record) (result : Result (List Mark) RunFault) (events : List Event) (disk : DiskState) → IfOk result (λ marks. marks ≡ marks_of setting events)
-    → IfOk result (λ marks. (position : ℕ) (mark : Mark) → slice_get marks position ≡ Some mark → is_made mark ≡ true → IsRecorded now setting.graph position) → OnOk result (KnowsDisk records_of now disk)
+recorded_in_end : (records_of : Image → List Record) (setting : Work) (now : FileName → Option Record) (result : Result (List FileStatus) RunFault) (events : List Event) (disk : DiskState) → IfOk result (λ statuses. statuses ≡ statuses_of setting events)
+    → IfOk result (λ statuses. (position : ℕ) (status : FileStatus) → slice_get statuses position ≡ Some status → is_made status ≡ true → IsRecorded now setting.graph position) → OnOk result (KnowsDisk records_of now disk)
     → OnOk result ((position : ℕ) → position < length setting.graph → is_some (artefact_after setting events position) ≡ true → IsDurablyRecorded records_of disk setting.graph position)
-recorded_in_end records_of setting now (Ok marks) events disk marked recorded knows = λ position inside is.
-    let mark : Mark = mark_at setting (book_of setting events).ends position in
+recorded_in_end records_of setting now (Ok statuses) events disk has_status recorded knows = λ position inside is.
+    let status : FileStatus = status_at setting (progress_of setting events).ends position in
     durable_if_known records_of setting.graph now disk knows position
-    (recorded position mark (ap (λ (all : List Mark). slice_get all position) marked ∙ mark_there setting events position inside) (made_mark setting.keep_going (exit_at (book_of setting events).ends position) (artefact_after setting events position) is))
-recorded_in_end records_of setting now (Err why) events disk marked recorded knows = tt
+    (recorded position status (ap (λ (all : List FileStatus). slice_get all position) has_status ∙ status_there setting events position inside) (made_status setting.keep_going (exit_at (progress_of setting events).ends position) (artefact_after setting events position) is))
+recorded_in_end records_of setting now (Err why) events disk has_status recorded knows = tt
 
 -- nothing was added
 pub since_itself : (journal : List Event) → since journal journal ≡ []
@@ -179,11 +179,11 @@ pub none_tested : {s : Work} (old new events : List Event) → new ≡ old ++ ev
 none_tested {s} old new events journal lawful = ap test_part (ap (since old) journal ∙ since-added old events) ∙ (build_parts s events lawful).1
 
 -- a store that was emptied holds what was committed since, and nothing else, where all of it is acknowledged
-emptied_in_end : (records_of : Image → List Record) (clean : Bool) (first last : DiskState) (base more : List Record) (result : Result (List Mark) RunFault) (broken : Bool) (acknowledged : ℕ) → IsBase records_of clean first base → OnOk result (broken ≡ false)
+emptied_in_end : (records_of : Image → List Record) (clean : Bool) (first last : DiskState) (base more : List Record) (result : Result (List FileStatus) RunFault) (broken : Bool) (acknowledged : ℕ) → IsBase records_of clean first base → OnOk result (broken ≡ false)
     → OnTrue (is_all_committed (fault_of result) broken) (acknowledged ≡ length more) → EachImage (λ image. HasFirst acknowledged (most_committed broken acknowledged) base more (records_of image)) last
     → OnOk result (clean ≡ true → EachImage (λ image. records_of image ≡ more) last)
 emptied_in_end records_of clean first last base more (Err why) broken acknowledged from usable whole each = tt
-emptied_in_end records_of clean first last base more (Ok marks) broken acknowledged from usable whole each = λ is image here.
+emptied_in_end records_of clean first last base more (Ok statuses) broken acknowledged from usable whole each = λ is image here.
     let has : HasFirst acknowledged (most_committed broken acknowledged) base more (records_of image) = each image here in
     let none : base ≡ [] = subst (λ (c : Bool). IsBase records_of c first base) is from in
     let all : acknowledged ≡ length more = OnTrue_at (ap not usable) whole in
@@ -191,7 +191,7 @@ emptied_in_end records_of clean first last base more (Ok marks) broken acknowled
     has.are ∙ ap (λ (l : List Record). l ++ take has.count more) none ∙ take_all has.count more count
 
 module _ (records_of : Image → List Record) (answer : Request → Exit) (order : Order) (is : IsGraph order.graph) (old mid new : Moments) (sound : AreSound new) (first : Follows old mid) (opening : IsOpening records_of order.clean old.now (added_since old mid))
-    (base : IsBase records_of order.clean old.now (records_of (reads_of mid.now))) (before now : FileName → Option Record) (knows : KnowsDisk records_of before mid.now) (tells told : Type 0) (t : tells) (d : told) (result : Result (List Mark) RunFault)
+    (base : IsBase records_of order.clean old.now (records_of (reads_of mid.now))) (before now : FileName → Option Record) (knows : KnowsDisk records_of before mid.now) (tells told : Type 0) (t : tells) (d : told) (result : Result (List FileStatus) RunFault)
     (old_journal journal : List Event) (broken failed : Bool) where
   latest_is : before ≡ latest_over records_of order.clean old.now
   latest_is = fun_ext (λ name. knows.held name ∙ base_latest records_of order.clean old.now (records_of (reads_of mid.now)) name base)
@@ -203,23 +203,23 @@ module _ (records_of : Image → List Record) (answer : Request → Exit) (order
   Ran latest_of =
       BuildRan tells told answer records_of (by latest_of) (record { latest_of = latest_of; journal = old_journal; moments = mid }) (record { latest_of = now; journal = journal; moments = new })
       (record { ended = is_ok result; fault = fault_of result; broken = broken })
-      (λ events. IfOk result (λ marks. marks ≡ marks_of (by latest_of) events))
+      (λ events. IfOk result (λ statuses. statuses ≡ statuses_of (by latest_of) events))
 
-  over : Ran (latest_over records_of order.clean old.now) → IfOk result (λ marks. (position : ℕ) (mark : Mark) → slice_get marks position ≡ Some mark → is_made mark ≡ true → IsRecorded now order.graph position) → OnOk result (KnowsDisk records_of now new.now) →
+  over : Ran (latest_over records_of order.clean old.now) → IfOk result (λ statuses. (position : ℕ) (status : FileStatus) → slice_get statuses position ≡ Some status → is_made status ≡ true → IsRecorded now order.graph position) → OnOk result (KnowsDisk records_of now new.now) →
       OnOk result (broken ≡ false) → (failed ≡ false → broken ≡ false) → BuildsOver records_of answer order result failed old new (since old_journal journal)
   over ran recorded knows_now works usable =
       let s : Work = work_over records_of order old.now in
       let second : Follows mid new = (ran.images d).images.any_moment.follows in
       let follows : Follows old new = follows_by old new (added_since old mid ++ added_since mid new) (joined_follows old mid new first second) in
       let events : since old_journal journal ≡ ran.events = ap (since old_journal) (ran.journal t) ∙ since-added old_journal ran.events in
-      let marked = if_ok_if _ result ran.says in
+      let has_status = if_ok_if _ result ran.says in
       subst (BuildsOver records_of answer order result failed old new) (sym events) (record {
         graph_form = is;
         lawful = ran.lawful t;
         answered = ran.answered t;
         whole = on_ok_if _ result (ran.whole t);
-        marks = marked;
-        recorded = recorded_in_end records_of s now result ran.events new.now marked recorded knows_now;
+        statuses = has_status;
+        recorded = recorded_in_end records_of s now result ran.events new.now has_status recorded knows_now;
         emptied = emptied_in_end records_of order.clean old.now new.now (records_of (reads_of mid.now)) (commits s ran.events) result broken ran.acknowledged base works ran.committed.whole (ran.images d).images.last;
         follows = follows;
         readable = (readable_since old new follows sound).1;
@@ -241,25 +241,25 @@ module _ (records_of : Image → List Record) (answer : Request → Exit) (order
   opened_untouched ran none = untouched_over (subst Ran latest_is ran) none
 
   -- where all files are made, the store lends what was built
-  lent_over : (ran : Ran (latest_over records_of order.clean old.now)) → is_all_committed (fault_of result) broken ≡ true → (marks : List Mark) → marks ≡ marks_of (work_over records_of order old.now) ran.events → list_all is_made marks ≡ true
-      → filter_map (lent_at now order.graph) (below (length order.graph)) ≡ built_by (work_over records_of order old.now) (since old_journal journal)
-  lent_over ran all marks marked made =
+  borrowed_over : (ran : Ran (latest_over records_of order.clean old.now)) → is_all_committed (fault_of result) broken ≡ true → (statuses : List FileStatus) → statuses ≡ statuses_of (work_over records_of order old.now) ran.events → list_all is_made statuses ≡ true
+      → filter_map (borrowed_at now order.graph) (below (length order.graph)) ≡ built_by (work_over records_of order old.now) (since old_journal journal)
+  borrowed_over ran all statuses has_status made =
       let s : Work = work_over records_of order old.now in
-      lent_are s ran.events now (OnTrue_at all ran.recorded) (mark_there s ran.events) (ap (list_all is_made) (sym marked) ∙ made) ∙ ap (built_by s) (sym (ap (since old_journal) (ran.journal t) ∙ since-added old_journal ran.events))
+      borrowed_are s ran.events now (OnTrue_at all ran.recorded) (status_there s ran.events) (ap (list_all is_made) (sym has_status) ∙ made) ∙ ap (built_by s) (sym (ap (since old_journal) (ran.journal t) ∙ since-added old_journal ran.events))
 
-  pub opened_lent : (ran : Ran before) → is_all_committed (fault_of result) broken ≡ true → (marks : List Mark) → marks ≡ marks_of (by before) ran.events → list_all is_made marks ≡ true
-      → filter_map (lent_at now order.graph) (below (length order.graph)) ≡ built_by (work_over records_of order old.now) (since old_journal journal)
-  opened_lent ran all marks marked made =
-      let moved = subst {A = FileName → Option Record} (λ latest_of. (ran : Ran latest_of) × (marks ≡ marks_of (by latest_of) ran.events)) latest_is (ran, marked) in
-      lent_over moved.0 all marks moved.1 made
+  pub opened_borrowed : (ran : Ran before) → is_all_committed (fault_of result) broken ≡ true → (statuses : List FileStatus) → statuses ≡ statuses_of (by before) ran.events → list_all is_made statuses ≡ true
+      → filter_map (borrowed_at now order.graph) (below (length order.graph)) ≡ built_by (work_over records_of order old.now) (since old_journal journal)
+  opened_borrowed ran all statuses has_status made =
+      let moved = subst {A = FileName → Option Record} (λ latest_of. (ran : Ran latest_of) × (statuses ≡ statuses_of (by latest_of) ran.events)) latest_is (ran, has_status) in
+      borrowed_over moved.0 all statuses moved.1 made
 
-  pub opened_over : Ran before → IfOk result (λ marks. (position : ℕ) (mark : Mark) → slice_get marks position ≡ Some mark → is_made mark ≡ true → IsRecorded now order.graph position) → OnOk result (KnowsDisk records_of now new.now) →
+  pub opened_over : Ran before → IfOk result (λ statuses. (position : ℕ) (status : FileStatus) → slice_get statuses position ≡ Some status → is_made status ≡ true → IsRecorded now order.graph position) → OnOk result (KnowsDisk records_of now new.now) →
       OnOk result (broken ≡ false) → (failed ≡ false → broken ≡ false) → BuildsOver records_of answer order result failed old new (since old_journal journal)
   opened_over ran recorded knows_now works usable = over (subst Ran latest_is ran) recorded knows_now works usable
 
 -- a store that is usable after a build knows what whatever a stop can leave holds
-pub knows_if : (A B : Type 0) (result : Result (List Mark) RunFault) (broken : Bool) → OnOk result (broken ≡ false) → OnFalse broken A → (A → B) → OnOk result B
-knows_if A B (Ok marks) broken usable in_step gives = gives (subst (λ (b : Bool). OnFalse b A) usable in_step)
+pub knows_if : (A B : Type 0) (result : Result (List FileStatus) RunFault) (broken : Bool) → OnOk result (broken ≡ false) → OnFalse broken A → (A → B) → OnOk result B
+knows_if A B (Ok statuses) broken usable in_step gives = gives (subst (λ (b : Bool). OnFalse b A) usable in_step)
 knows_if A B (Err why) broken usable in_step gives = tt
 
 -- a store is usable where no fault of the disk was counted

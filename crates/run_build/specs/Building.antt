@@ -4,7 +4,7 @@ use Rattle.std.specs.List.{AllByRecursion}
 use Rattle.base.specs.declared.child.Request.{Request}
 use Rattle.base.specs.declared.child.Exit.{Exit}
 use Rattle.base.specs.declared.child.Event.{Event}
-use Rattle.run_spec.specs.declared.marks.Mark.{Mark}
+use Rattle.run_spec.specs.declared.statuses.FileStatus.{FileStatus}
 use Rattle.base.specs.Graphs.{IsGraph}
 use Rattle.outside.specs.Records.{Record}
 use Rattle.outside.specs.declared.records.StoreFault.{StoreFault}
@@ -12,10 +12,10 @@ use Rattle.outside.specs.Disks.{Image, Moments, EachImage, Follows, Rests, added
 use Rattle.outside.specs.Phases.{IsOpening, IsBase, HasPhases}
 use Rattle.run_spec.specs.ChildJournal.{Lawful, Answered, IsWhole, artefact_after}
 use Rattle.run_spec.specs.Commits.{commits, Waits}
-use Rattle.run_histories.specs.Histories.{Order, IsReadable, work_over}
-use Rattle.run_spec.specs.Marks.{marks_of}
-use Rattle.run_steps.specs.declared.fault.RunFault.{RunFault}
-use Rattle.run_steps.specs.declared.fault.RunFault.TheVariants as fault
+use Rattle.run_spec.specs.Histories.{Order, IsReadable, work_over}
+use Rattle.run_spec.specs.Statuses.{statuses_of}
+use Rattle.run_spec.specs.declared.fault.RunFault.{RunFault}
+use Rattle.run_spec.specs.declared.fault.RunFault.TheVariants as fault
 use Rattle.run_build.specs.declared.building.Kept.{Kept}
 use Rattle.run_build.specs.Orders.{IsDurablyRecorded}
 
@@ -24,9 +24,9 @@ abbrev pub has_risen : ℕ → ℕ → Bool
 has_risen before now = nat_le (min (before + 1) (2 ^ 64 - 1)) now
 
 -- what a build gave, apart from the store that it kept
-abbrev pub marks_in : {K : Type 0} → Result (Kept K) RunFault → Result (List Mark) RunFault
-marks_in (Ok kept) = Ok kept.marks
-marks_in (Err why) = Err why
+abbrev pub statuses_in : {K : Type 0} → Result (Kept K) RunFault → Result (List FileStatus) RunFault
+statuses_in (Ok kept) = Ok kept.statuses
+statuses_in (Err why) = Err why
 
 -- What opening a store leaves of a disk, on every answer. Once it is open, its records are the base of what is committed:
 -- none where it was emptied.
@@ -45,12 +45,12 @@ RestsOver records_of is_resting order result old new events = order.clean ≡ fa
 -- go through the phases of a store to which its commits are added, so many of which are acknowledged: all of them where
 -- neither the disk nor memory failed. At its end each file that is made has a record of what would be asked for it now in
 -- whatever a stop can leave, and where the store is emptied that has no record but those of its commits.
-pub record BuildsOver (records_of : Image → List Record) (answer : Request → Exit) (order : Order) (result : Result (List Mark) RunFault) (disk_failed : Bool) (old new : Moments) (events : List Event) : Type 0 where
+pub record BuildsOver (records_of : Image → List Record) (answer : Request → Exit) (order : Order) (result : Result (List FileStatus) RunFault) (disk_failed : Bool) (old new : Moments) (events : List Event) : Type 0 where
   pub graph_form : IsGraph order.graph
   pub lawful : Lawful (work_over records_of order old.now) events
   pub answered : Answered answer events
   pub whole : OnOk result (IsWhole (work_over records_of order old.now) events)
-  pub marks : IfOk result (λ marks. marks ≡ marks_of (work_over records_of order old.now) events)
+  pub statuses : IfOk result (λ statuses. statuses ≡ statuses_of (work_over records_of order old.now) events)
   pub recorded : OnOk result ((position : ℕ) → position < length order.graph → is_some (artefact_after (work_over records_of order old.now) events position) ≡ true → IsDurablyRecorded records_of new.now order.graph position)
   pub emptied : OnOk result (order.clean ≡ true → EachImage (λ image. records_of image ≡ commits (work_over records_of order old.now) events) new.now)
   pub follows : Follows old new

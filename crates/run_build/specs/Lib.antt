@@ -1,3 +1,9 @@
 -- The definitions.
+pub mod Commits
+pub mod Statuses
+pub mod Requests
+pub mod Faults
+pub mod UnderWay
+pub mod Ran
 pub mod Orders
 pub mod Building

@@ -3,7 +3,7 @@ use Rattle.std.specs.Prelude.{ℕ, List}
 use Rattle.base.specs.declared.graph.Entry.{Entry}
 use Rattle.outside.specs.Disks.{DiskState, Image, EachImage}
 use Rattle.outside.specs.Records.{Record, latest, IsRecorded}
-use Rattle.run_histories.specs.Histories.{Order}
+use Rattle.run_spec.specs.Histories.{Order}
 use Rattle.run_build.specs.declared.building.BuildOptions.{BuildOptions}
 
 -- in whatever a stop can leave, the latest record of the file at a position has what would be asked for it now

@@ -7,21 +7,20 @@ ghost use Rattle.outside.specs.Counts.{StoreCounts};
 ghost use Rattle.outside.specs.Disks.{Rests, reads_of};
 ghost use Rattle.outside.specs.Records.{IsRecorded};
 ghost use Rattle.outside.specs.FaultCounts.{NoBuildCountFell, build_counts};
-ghost use Rattle.run_spec.specs.declared.marks.Mark.{Mark};
+ghost use Rattle.run_spec.specs.declared.statuses.FileStatus.{FileStatus};
 ghost use Rattle.run_spec.specs.ChildJournal.{since};
-ghost use Rattle.run_histories.specs.Histories.{work_over};
+ghost use Rattle.run_spec.specs.Histories.{work_over};
 ghost use Rattle.run_spec.specs.JournalParts.{test_part};
-ghost use Rattle.build_loop.specs.Ran.{built_by, is_made};
-ghost use Rattle.build_loop.specs.Requests.{lent_at};
-ghost use Rattle.run_steps.specs.Faults.{Explains, fault_of};
-ghost use Rattle.run_build.specs.Building.{OpensStore, BuildsOver, RestsOver, has_risen, marks_in};
+ghost use Rattle.run_build.specs.Ran.{built_by, is_made};
+ghost use Rattle.run_build.specs.Requests.{borrowed_at};
+ghost use Rattle.run_spec.specs.Faults.{Explains, fault_of};
+ghost use Rattle.run_build.specs.Building.{OpensStore, BuildsOver, RestsOver, has_risen, statuses_in};
 ghost use Rattle.run_build.specs.Orders.{order_by};
 
+use crate::build_statuses;
 use base::{FILE_LIMIT, Graph, SLOT_LIMIT};
-use build_loop::build_marks;
 use outside::{Disk, OpenRecords, Procs, Records, StoreFault};
-use run_spec::MarkList;
-use run_steps::RunFault;
+use run_spec::{FileStatusList, RunFault};
 use std::alloc::Global;
 
 /// How a graph is built: with so many children at once, going on after a refusal or not, and over the records that are there
@@ -33,10 +32,10 @@ pub struct BuildOptions {
     pub clean: bool,
 }
 
-/// What became of the files of a graph that was built, one mark for each file, in order; and the store that has their records.
+/// What became of the files of a graph that was built, one status for each file, in order; and the store that has their records.
 #[derive(Drop)]
 pub struct Kept<K> {
-    pub marks: MarkList,
+    pub statuses: FileStatusList,
     pub store: K,
 }
 
@@ -60,7 +59,7 @@ fn open_store<'g, K: Records + OpenRecords<'g>, D: Disk>(
         (D.failed_disk_calls disk.new) }
 {
     if clean {
-        return K::emptied(alloc, disk, graph);
+        return K::open_empty(alloc, disk, graph);
     }
     K::open(alloc, disk, graph)
 }
@@ -77,15 +76,15 @@ pub fn build_kept<'g, K: Records + OpenRecords<'g> + Drop, D: Disk, P: Procs>(
     requires idle { P.running procs.old ≡ [] }
     ensures running { P.running procs.new ≡ [] }
     ensures same { P.answer procs.new ≡ P.answer procs.old }
-    ensures count { IfOk result (λ kept. length kept.marks ≡ length graph.now) }
+    ensures count { IfOk result (λ kept. length kept.statuses ≡ length graph.now) }
     // Of each file that is made the store has a record of what would be asked for it now,
-    ensures recorded { IfOk result (λ kept. (position : ℕ) (mark : Mark) →
-        slice_get kept.marks position ≡ Some mark → is_made mark ≡ true →
+    ensures recorded { IfOk result (λ kept. (position : ℕ) (status : FileStatus) →
+        slice_get kept.statuses position ≡ Some status → is_made status ≡ true →
         IsRecorded (K.latest_of kept.store) graph.now position) }
     // and where all are, what it lends of them are the files that were built.
-    ensures lent { D.tells → P.tells → IfOk result (λ kept.
-        list_all is_made kept.marks ≡ true →
-        filter_map (lent_at (K.latest_of kept.store) graph.now) (below (length graph.now))
+    ensures borrowed { D.tells → P.tells → IfOk result (λ kept.
+        list_all is_made kept.statuses ≡ true →
+        filter_map (borrowed_at (K.latest_of kept.store) graph.now) (below (length graph.now))
         ≡ built_by (work_over K.records_of (order_by options graph.now) (D.moments disk.old).now)
         (since (P.journal procs.old) (P.journal procs.new))) }
     ensures follows { P.tells →
@@ -94,7 +93,7 @@ pub fn build_kept<'g, K: Records + OpenRecords<'g> + Drop, D: Disk, P: Procs>(
     ensures no_tests { P.tells →
         test_part (since (P.journal procs.old) (P.journal procs.new)) ≡ [] }
     ensures told { D.tells → P.tells →
-        BuildsOver K.records_of (P.answer procs.old) (order_by options graph.now) (marks_in result)
+        BuildsOver K.records_of (P.answer procs.old) (order_by options graph.now) (statuses_in result)
         (has_risen (D.failed_disk_calls disk.old) (D.failed_disk_calls disk.new))
         (D.moments disk.old) (D.moments disk.new)
         (since (P.journal procs.old) (P.journal procs.new)) }
@@ -112,7 +111,7 @@ pub fn build_kept<'g, K: Records + OpenRecords<'g> + Drop, D: Disk, P: Procs>(
 {
     prove!(graph.len() <= FILE_LIMIT as u64);
     match open_store::<K, D>(alloc, disk, graph, options.clean) {
-        Ok(mut store) => match build_marks(
+        Ok(mut store) => match build_statuses(
             alloc,
             graph,
             &mut store,
@@ -121,7 +120,7 @@ pub fn build_kept<'g, K: Records + OpenRecords<'g> + Drop, D: Disk, P: Procs>(
             options.slots,
             options.keep_going,
         ) {
-            Ok(marks) => Ok(Kept { marks, store }),
+            Ok(statuses) => Ok(Kept { statuses, store }),
             Err(fault) => Err(fault),
         },
         Err(StoreFault::NoMemory) => Err(RunFault::NoMemory),
@@ -136,12 +135,12 @@ pub fn build_over<'g, K: Records + OpenRecords<'g> + Drop, D: Disk, P: Procs>(
     options: BuildOptions,
     disk: &mut D,
     procs: &mut P,
-) -> Result<MarkList, RunFault>
+) -> Result<FileStatusList, RunFault>
     requires slots { (1 ≤ options.slots) × (options.slots ≤ SLOT_LIMIT) }
     requires idle { P.running procs.old ≡ [] }
     ensures running { P.running procs.new ≡ [] }
     ensures same { P.answer procs.new ≡ P.answer procs.old }
-    ensures count { IfOk result (λ marks. length marks ≡ length graph.now) }
+    ensures count { IfOk result (λ statuses. length statuses ≡ length graph.now) }
     ensures follows { P.tells →
         (P.journal procs.new
         ≡ P.journal procs.old ++ since (P.journal procs.old) (P.journal procs.new)) }
@@ -167,10 +166,10 @@ pub fn build_over<'g, K: Records + OpenRecords<'g> + Drop, D: Disk, P: Procs>(
     match build_kept::<K, D, P>(alloc, graph, options, disk, procs) {
         Ok(
             Kept {
-                marks,
+                statuses,
                 store: _store,
             },
-        ) => Ok(marks),
+        ) => Ok(statuses),
         Err(fault) => Err(fault),
     }
 }

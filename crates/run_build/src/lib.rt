@@ -1,6 +1,17 @@
+//! The build of a graph over a store of records, with up to 64 children at once: stale files are compiled, each once all
+//! that it depends on is made, and each artefact is committed before the next start.
 //! A run over a disk: its store is opened, and a graph is built over its records.
 #![tactic(auto)]
 
 mod building;
+mod builds;
+mod checks;
+mod commits;
+mod ends;
+mod notes;
+mod requests;
+mod starts;
+mod statuses;
 
 pub use building::{BuildOptions, Kept, build_kept, build_over};
+pub use builds::build_statuses;

@@ -13,7 +13,7 @@ use Rattle.base.specs.declared.child.Event.{Event}
 use Rattle.base.specs.Graphs.{IsGraph}
 use Rattle.base.specs.Jobs.{compile_request}
 use Rattle.outside.specs.Records.{Asked, request_of}
-use Rattle.run_spec.specs.ChildJournal.{Work, End, Book, Lawful, Answered, book_of}
+use Rattle.run_spec.specs.ChildJournal.{Work, End, BuildProgress, Lawful, Answered, progress_of}
 use Rattle.run_spec.specs.Settled.{request_over, IsAnswered}
 use Rattle.run_spec.specs.Commits.{asked_over, record_at, commit_of, commits_of, commits}
 use Rattle.run_spec.specs.Faithful.{IsTrueRecord}
@@ -54,6 +54,6 @@ module _ (answer : Request → Exit) (work : Work) where
 
   pub commits_true : IsGraph work.graph → (events : List Event) → Lawful work events → Answered answer events → All (IsTrueRecord answer) (commits work events)
   commits_true graph events lawful answered =
-      let book : Book = book_of work events in
-      let is : AreAnswered answer work book = answers_of answer work (deps_before work.graph graph) events lawful answered in
-      all_true book.ends book.ends is.ends is.ends_over
+      let progress : BuildProgress = progress_of work events in
+      let is : AreAnswered answer work progress = answers_of answer work (deps_before work.graph graph) events lawful answered in
+      all_true progress.ends progress.ends is.ends is.ends_over

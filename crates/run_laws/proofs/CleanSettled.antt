@@ -20,7 +20,7 @@ use Rattle.run_spec.proofs.Artefacts.{deps_before}
 use Rattle.run_spec.proofs.BuiltLists.{has_all_same, built_same}
 use Rattle.run_spec.proofs.FoldLaws.{by_all_below}
 use Rattle.run_spec.proofs.SettledBuild.{settle_at, settled_past, true_same}
-use Rattle.run_laws.proofs.CleanPlaces.{list_all-same, filter_map-same, length-clean, clean_at}
+use Rattle.run_laws.proofs.CleanRanks.{list_all-same, filter_map-same, length-clean, clean_at}
 
 -- what an exit says of a file, in both
 exit_says : (entry : Entry) (exit : Exit) → built_file (Some entry) (settled_artefact (settled_by_exit exit)) ≡ built_of (Some (result_of entry exit))

@@ -9,13 +9,13 @@ use Rattle.base.specs.declared.graph.Entry.{Entry}
 use Rattle.base.specs.declared.child.Request.{Request}
 use Rattle.base.specs.declared.child.Exit.{Exit}
 use Rattle.base.specs.Graphs.{IsEntryAt, IsGraph}
-use Rattle.base.specs.View.{place_in, renumbered, part, viewed, view}
+use Rattle.base.specs.View.{rank_in, renumbered, part, viewed, view}
 use Rattle.run_spec.specs.CleanBuild.{Result, built_of, built_below, is_free, next_result, clean_build}
-use Rattle.project_views.proofs.Numbering.{place_at, place_within, get_or-place, place_lower}
+use Rattle.project_views.proofs.Numbering.{rank_at, rank_within, get_or-rank, rank_lower}
 use Rattle.project_views.specs.Parts.{IsPart}
 use Rattle.project_views.proofs.Parts.{no_entry, length-part, get_or-part, part_is_graph}
 use Rattle.project_views.proofs.ViewLaws.{viewed_is_part}
-use Rattle.run_laws.proofs.CleanPlaces.{list_all-same, filter_map-cons, filter_map-same, step, length-clean, clean_at}
+use Rattle.run_laws.proofs.CleanRanks.{list_all-same, filter_map-cons, filter_map-same, step, length-clean, clean_at}
 
 pub filter_map-map : {X Y Z : Type 0} (f : Y → Option Z) (g : X → Y) (xs : List X) → filter_map f (map g xs) ≡ filter_map (λ x. f (g x)) xs
 filter_map-map f g [] = refl
@@ -33,17 +33,17 @@ items_at {X} all (slot ∷ slots) (item ∷ items) count h =
 
 -- a file whose dependencies have new numbers, where the results there are the same
 pub renumbered_next : (answer : Request → Exit) (a b : List Result) (positions : List ℕ) (entry : Entry)
-    → ((k : ℕ) → k < length entry.deps → slice_get a (place_in positions (get_or entry.deps k 0)) ≡ slice_get b (get_or entry.deps k 0))
+    → ((k : ℕ) → k < length entry.deps → slice_get a (rank_in positions (get_or entry.deps k 0)) ≡ slice_get b (get_or entry.deps k 0))
     → next_result answer a (renumbered positions entry) ≡ next_result answer b entry
 unfolding step
 renumbered_next answer a b positions entry h =
     let free : is_free a (renumbered positions entry) ≡ is_free b entry =
-    list_all-map (λ dep. is_some (built_of (slice_get a dep))) (place_in positions) entry.deps
-    ∙ list_all-same (λ dep. is_some (built_of (slice_get a (place_in positions dep)))) (λ dep. is_some (built_of (slice_get b dep))) entry.deps 0
+    list_all-map (λ dep. is_some (built_of (slice_get a dep))) (rank_in positions) entry.deps
+    ∙ list_all-same (λ dep. is_some (built_of (slice_get a (rank_in positions dep)))) (λ dep. is_some (built_of (slice_get b dep))) entry.deps 0
     (λ k l. ap (λ (r : Option Result). is_some (built_of r)) (h k l)) in
     let built : built_below a (renumbered positions entry) ≡ built_below b entry =
-    filter_map-map (λ dep. built_of (slice_get a dep)) (place_in positions) entry.deps
-    ∙ filter_map-same (λ dep. built_of (slice_get a (place_in positions dep))) (λ dep. built_of (slice_get b dep)) entry.deps 0 (λ k l. ap built_of (h k l)) in
+    filter_map-map (λ dep. built_of (slice_get a dep)) (rank_in positions) entry.deps
+    ∙ filter_map-same (λ dep. built_of (slice_get a (rank_in positions dep))) (λ dep. built_of (slice_get b dep)) entry.deps 0 (λ k l. ap built_of (h k l)) in
     ap (λ (t : Bool). step answer entry t (built_below a (renumbered positions entry))) free ∙ ap (step answer entry (is_free b entry)) built
 
 module _ (answer : Request → Exit) (graph : List Entry) (valid : IsGraph graph) (positions : List ℕ) (is : IsPart graph positions) where
@@ -65,9 +65,9 @@ module _ (answer : Request → Exit) (graph : List Entry) (valid : IsGraph graph
       ∙ ap (λ (r : Result). Some r) (renumbered_next answer (clean_build answer (part graph positions)) (clean_build answer graph) positions entry (λ j m.
       let q : ℕ = get_or entry.deps j 0 in
       let held : Contains positions q = is.closed k 0 l no_entry j 0 m in
-      let lower : place_in positions q < place_in positions p = place_lower positions is.rising q p held p_held (old.before j 0 m) in
-      let low_enough : place_in positions q < n = omega (arith, lower, place_at positions is.rising k 0 l) in
-      same_up_to n (place_in positions q) low_enough (place_within positions is.rising q held) ∙ ap (slice_get (clean_build answer graph)) (get_or-place positions is.rising q 0 held)))
+      let lower : rank_in positions q < rank_in positions p = rank_lower positions is.rising q p held p_held (old.before j 0 m) in
+      let low_enough : rank_in positions q < n = omega (arith, lower, rank_at positions is.rising k 0 l) in
+      same_up_to n (rank_in positions q) low_enough (rank_within positions is.rising q held) ∙ ap (slice_get (clean_build answer graph)) (get_or-rank positions is.rising q 0 held)))
       ∙ sym (clean_at answer graph p entry here old.before)
 
   -- a clean build of a part gives the results at the slots of the part

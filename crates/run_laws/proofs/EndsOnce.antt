@@ -9,9 +9,9 @@ use Rattle.base.specs.declared.child.Request.{Request}
 use Rattle.base.specs.declared.child.Exit.{Exit}
 use Rattle.base.specs.declared.child.Event.{Event}
 use Rattle.base.specs.declared.child.Event.TheVariants.{Started, Ended, Gone}
-use Rattle.run_spec.specs.ChildJournal.{Work, Run, End, Book, empty_book, next_position, files_below, request_at, run_of, others_of, end_of, after, after_all, book_of, Lawful, Answered}
+use Rattle.run_spec.specs.ChildJournal.{Work, Run, End, BuildProgress, empty_progress, next_position, files_below, request_at, run_of, others_of, end_of, after, after_all, progress_of, Lawful, Answered}
 use Rattle.run_spec.proofs.Steps.{Steps, steps_of}
-use Rattle.run_laws.proofs.JournalBooks.{startable_parts, next_parts}
+use Rattle.run_laws.proofs.JournalProgress.{startable_parts, next_parts}
 use Rattle.run_laws.proofs.JournalKeeps.{was_taken, IsOrderly, started_orderly, ended_orderly, gone_orderly, orderly_at_first, ended_run}
 
 -- 1 for a file's own child
@@ -36,24 +36,24 @@ count_ends-append k [] ys = omega arith
 count_ends-append k (end ∷ xs) ys = omega (arith, count_ends-append k xs ys)
 
 -- a file that wasn't taken has none
-no_run : (book : Book) (k : ℕ) → was_taken book k ≡ false → (runs : List Run) → All (λ run. was_taken book run.position ≡ true) runs → count_runs k runs ≡ 0
-no_run book k fresh [] all = refl
-no_run book k fresh (run ∷ runs) all =
+no_run : (progress : BuildProgress) (k : ℕ) → was_taken progress k ≡ false → (runs : List Run) → All (λ run. was_taken progress run.position ≡ true) runs → count_runs k runs ≡ 0
+no_run progress k fresh [] all = refl
+no_run progress k fresh (run ∷ runs) all =
     elim (cases_Bool (eqb run.position k)) [
-      | inl t ↦ absurd (both_ways (was_taken book k) fresh (subst (λ (j : ℕ). was_taken book j ≡ true) (eqb-true run.position k t) (All-head (λ r. was_taken book r.position ≡ true) run runs all)))
+      | inl t ↦ absurd (both_ways (was_taken progress k) fresh (subst (λ (j : ℕ). was_taken progress j ≡ true) (eqb-true run.position k t) (All-head (λ r. was_taken progress r.position ≡ true) run runs all)))
       | inr f ↦
-          let rest = no_run book k fresh runs (All-tail (λ r. was_taken book r.position ≡ true) run runs all) in
+          let rest = no_run progress k fresh runs (All-tail (λ r. was_taken progress r.position ≡ true) run runs all) in
           let none : own (eqb run.position k) ≡ 0 = ap own f in
           omega (arith, rest, none)
     ]
 
-pub no_end : (book : Book) (k : ℕ) → was_taken book k ≡ false → (ends : List End) → All (λ end. was_taken book end.position ≡ true) ends → count_ends k ends ≡ 0
-no_end book k fresh [] all = refl
-no_end book k fresh (end ∷ ends) all =
+pub no_end : (progress : BuildProgress) (k : ℕ) → was_taken progress k ≡ false → (ends : List End) → All (λ end. was_taken progress end.position ≡ true) ends → count_ends k ends ≡ 0
+no_end progress k fresh [] all = refl
+no_end progress k fresh (end ∷ ends) all =
     elim (cases_Bool (eqb end.position k)) [
-      | inl t ↦ absurd (both_ways (was_taken book k) fresh (subst (λ (j : ℕ). was_taken book j ≡ true) (eqb-true end.position k t) (All-head (λ e. was_taken book e.position ≡ true) end ends all)))
+      | inl t ↦ absurd (both_ways (was_taken progress k) fresh (subst (λ (j : ℕ). was_taken progress j ≡ true) (eqb-true end.position k t) (All-head (λ e. was_taken progress e.position ≡ true) end ends all)))
       | inr f ↦
-          let rest = no_end book k fresh ends (All-tail (λ e. was_taken book e.position ≡ true) end ends all) in
+          let rest = no_end progress k fresh ends (All-tail (λ e. was_taken progress e.position ≡ true) end ends all) in
           let none : own (eqb end.position k) ≡ 0 = ap own f in
           omega (arith, rest, none)
     ]
@@ -80,44 +80,44 @@ fewer_runs k ticket (run ∷ runs) =
     ]
 
 module _ (answer : Request → Exit) (setting : Work) (k : ℕ) where
-  abbrev IsOnce : Book → Type 0
-  IsOnce book = count_runs k book.runs + count_ends k book.ends ≤ 1
+  abbrev IsOnce : BuildProgress → Type 0
+  IsOnce progress = count_runs k progress.runs + count_ends k progress.ends ≤ 1
 
-  once_start : (lost : Bool) (book : Book) → IsOrderly setting lost book → IsOnce book → (ticket : ℕ) (request : Request) (next : Option ℕ) → next_position setting book ≡ next →
-      option_and_then (request_at setting book.ends) next ≡ Some request → count_runs k (book.runs ++ (record { ticket = ticket; position = unwrap_or next 0; request = request; below = files_below setting book.ends (unwrap_or next 0) }) ∷ []) + count_ends k book.ends ≤ 1
-  once_start lost book orderly once ticket request None e asks = absurd (none-some request asks)
-  once_start lost book orderly once ticket request (Some position) e asks =
-      let run : Run = record { ticket = ticket; position = position; request = request; below = files_below setting book.ends position } in
-      let pushed : count_runs k (book.runs ++ run ∷ []) ≡ count_runs k book.runs + own (eqb position k) = count_runs-push k book.runs run in
+  once_start : (lost : Bool) (progress : BuildProgress) → IsOrderly setting lost progress → IsOnce progress → (ticket : ℕ) (request : Request) (next : Option ℕ) → next_position setting progress ≡ next →
+      option_and_then (request_at setting progress.ends) next ≡ Some request → count_runs k (progress.runs ++ (record { ticket = ticket; position = unwrap_or next 0; request = request; below = files_below setting progress.ends (unwrap_or next 0) }) ∷ []) + count_ends k progress.ends ≤ 1
+  once_start lost progress orderly once ticket request None e asks = absurd (none-some request asks)
+  once_start lost progress orderly once ticket request (Some position) e asks =
+      let run : Run = record { ticket = ticket; position = position; request = request; below = files_below setting progress.ends position } in
+      let pushed : count_runs k (progress.runs ++ run ∷ []) ≡ count_runs k progress.runs + own (eqb position k) = count_runs-push k progress.runs run in
       elim (cases_Bool (eqb position k)) [
         | inl t ↦
-            let fresh : was_taken book k ≡ false = subst (λ (j : ℕ). was_taken book j ≡ false) (eqb-true position k t) (startable_parts setting book position (next_parts setting book position e).1).0 in
+            let fresh : was_taken progress k ≡ false = subst (λ (j : ℕ). was_taken progress j ≡ false) (eqb-true position k t) (startable_parts setting progress position (next_parts setting progress position e).1).0 in
             let one : own (eqb position k) ≡ 1 = ap own t in
-            omega (arith, pushed, one, no_run book k fresh book.runs orderly.runs, no_end book k fresh book.ends orderly.ends)
+            omega (arith, pushed, one, no_run progress k fresh progress.runs orderly.runs, no_end progress k fresh progress.ends orderly.ends)
         | inr f ↦ let none : own (eqb position k) ≡ 0 = ap own f in omega (arith, pushed, none, once)
       ]
 
-  once_end : (book : Book) → IsOnce book → (ticket : ℕ) (exit : Exit) → option_map (λ run. answer run.request) (run_of ticket book.runs) ≡ Some exit →
-      count_runs k (others_of ticket book.runs) + count_ends k (book.ends ++ end_of (run_of ticket book.runs) exit) ≤ 1
-  once_end book once ticket exit h =
-      let found = ended_run answer (run_of ticket book.runs) exit h in
+  once_end : (progress : BuildProgress) → IsOnce progress → (ticket : ℕ) (exit : Exit) → option_map (λ run. answer run.request) (run_of ticket progress.runs) ≡ Some exit →
+      count_runs k (others_of ticket progress.runs) + count_ends k (progress.ends ++ end_of (run_of ticket progress.runs) exit) ≤ 1
+  once_end progress once ticket exit h =
+      let found = ended_run answer (run_of ticket progress.runs) exit h in
       let run : Run = found.0 in
-      let one : count_ends k (end_of (run_of ticket book.runs) exit) ≡ own (eqb run.position k) + 0 = ap (λ (r : Option Run). count_ends k (end_of r exit)) found.1 in
-      omega (arith, one, count_ends-append k book.ends (end_of (run_of ticket book.runs) exit), without_run k ticket book.runs run found.1, once)
+      let one : count_ends k (end_of (run_of ticket progress.runs) exit) ≡ own (eqb run.position k) + 0 = ap (λ (r : Option Run). count_ends k (end_of r exit)) found.1 in
+      omega (arith, one, count_ends-append k progress.ends (end_of (run_of ticket progress.runs) exit), without_run k ticket progress.runs run found.1, once)
 
-  once_after : (lost : Bool) (book : Book) → IsOrderly setting lost book → IsOnce book → (events : List Event) → Steps answer setting book events → IsOnce (after_all setting book events)
+  once_after : (lost : Bool) (progress : BuildProgress) → IsOrderly setting lost progress → IsOnce progress → (events : List Event) → Steps answer setting progress events → IsOnce (after_all setting progress events)
   unfolding after_all after Steps
-  once_after lost book orderly once [] steps = once
-  once_after lost book orderly once (Started ticket request ∷ events) steps =
-      once_after lost (after setting book (Started ticket request)) (started_orderly answer setting lost book orderly ticket request)
-      (once_start lost book orderly once ticket request (next_position setting book) refl steps.0.least) events steps.1
-  once_after lost book orderly once (Ended ticket exit ∷ events) steps =
-      once_after lost (after setting book (Ended ticket exit)) (ended_orderly answer setting lost book orderly ticket exit steps.0) (once_end book once ticket exit steps.0) events steps.1
-  once_after lost book orderly once (Gone ticket ∷ events) steps =
-      once_after true (after setting book (Gone ticket)) (gone_orderly answer setting lost book orderly ticket) (omega (arith, fewer_runs k ticket book.runs, once)) events steps
+  once_after lost progress orderly once [] steps = once
+  once_after lost progress orderly once (Started ticket request ∷ events) steps =
+      once_after lost (after setting progress (Started ticket request)) (started_orderly answer setting lost progress orderly ticket request)
+      (once_start lost progress orderly once ticket request (next_position setting progress) refl steps.0.least) events steps.1
+  once_after lost progress orderly once (Ended ticket exit ∷ events) steps =
+      once_after lost (after setting progress (Ended ticket exit)) (ended_orderly answer setting lost progress orderly ticket exit steps.0) (once_end progress once ticket exit steps.0) events steps.1
+  once_after lost progress orderly once (Gone ticket ∷ events) steps =
+      once_after true (after setting progress (Gone ticket)) (gone_orderly answer setting lost progress orderly ticket) (omega (arith, fewer_runs k ticket progress.runs, once)) events steps
 
   -- at most one child of each file has ended
-  pub ended_once : (events : List Event) → Lawful setting events → Answered answer events → count_ends k (book_of setting events).ends ≤ 1
+  pub ended_once : (events : List Event) → Lawful setting events → Answered answer events → count_ends k (progress_of setting events).ends ≤ 1
   ended_once events lawful answered =
-      let once : IsOnce (book_of setting events) = once_after false empty_book (orderly_at_first answer setting) (omega arith) events (steps_of answer setting events lawful answered) in
+      let once : IsOnce (progress_of setting events) = once_after false empty_progress (orderly_at_first answer setting) (omega arith) events (steps_of answer setting events lawful answered) in
       omega (arith, once)

@@ -11,12 +11,12 @@ use Rattle.base.specs.declared.child.Event.{Event}
 use Rattle.base.specs.declared.child.Event.TheVariants.{Started, Ended, Gone}
 use Rattle.base.specs.Jobs.{compile_request}
 use Rattle.outside.specs.Records.{deps_at}
-use Rattle.run_spec.specs.ChildJournal.{Work, Run, End, Book, empty_book, child_of_end, or_else, output_at, built_at, artefact_so_far, next_position, files_below, request_at, run_of, others_of, end_of, after, after_all, book_of, Lawful, Answered}
+use Rattle.run_spec.specs.ChildJournal.{Work, Run, End, BuildProgress, empty_progress, child_of_end, or_else, output_at, built_at, artefact_so_far, next_position, files_below, request_at, run_of, others_of, end_of, after, after_all, progress_of, Lawful, Answered}
 use Rattle.run_spec.specs.Settled.{request_over, IsAsked, IsAnswered}
 use Rattle.run_spec.proofs.Artefacts.{artefact_free}
 use Rattle.run_spec.proofs.SettledBuild.{asked_more, is_answered_more}
 use Rattle.run_spec.proofs.Steps.{Steps, run_found, All-others, steps_of}
-use Rattle.run_laws.proofs.JournalBooks.{startable_parts, next_parts}
+use Rattle.run_laws.proofs.JournalProgress.{startable_parts, next_parts}
 
 -- what is asked for a file
 pub request_is : (work : Work) (ends : List End) (position : ℕ) → request_at work ends position ≡ request_over work.graph position (built_at work.graph (artefact_so_far work ends) (deps_at work.graph position))
@@ -41,16 +41,16 @@ none_from None p none = refl
 none_from (Some x) p none = absurd (none-some x (sym none))
 
 -- a file that is started is asked for over all that it depends on, and no record of it is current over that
-pub start_asked : (work : Work) → ((position : ℕ) → All (λ dep. dep < position) (deps_at work.graph position)) → (book : Book) (position : ℕ) (request : Request) → next_position work book ≡ Some position → request_at work book.ends position ≡ Some request
-    → IsAsked work book.ends position request
-start_asked work ordered book position request next asks =
-    let place = next_parts work book position next in
-    let parts = startable_parts work book position place.1 in
+pub start_asked : (work : Work) → ((position : ℕ) → All (λ dep. dep < position) (deps_at work.graph position)) → (progress : BuildProgress) (position : ℕ) (request : Request) → next_position work progress ≡ Some position → request_at work progress.ends position ≡ Some request
+    → IsAsked work progress.ends position request
+start_asked work ordered progress position request next asks =
+    let rank = next_parts work progress position next in
+    let parts = startable_parts work progress position rank.1 in
     record {
       over_all = parts.2;
-      asked = sym (request_is work book.ends position) ∙ asks;
-      stale = none_from (work.current position (built_at work.graph (artefact_so_far work book.ends) (deps_at work.graph position))) (output_at (map child_of_end book.ends) position)
-          (sym (artefact_free work ordered (map child_of_end book.ends) position place.0 parts.2) ∙ parts.1);
+      asked = sym (request_is work progress.ends position) ∙ asks;
+      stale = none_from (work.current position (built_at work.graph (artefact_so_far work progress.ends) (deps_at work.graph position))) (output_at (map child_of_end progress.ends) position)
+          (sym (artefact_free work ordered (map child_of_end progress.ends) position rank.0 parts.2) ∙ parts.1);
     }
 
 -- a child was started with what is asked for its file over the files below that were built
@@ -61,91 +61,91 @@ abbrev pub IsEndOver : Work → End → Type 0
 IsEndOver work end = request_over work.graph end.position end.below ≡ Some end.request
 
 -- each file that was started was asked for so, and each child that has ended has answered
-pub record AreAnswered (answer : Request → Exit) (work : Work) (book : Book) : Type 0 where
-  pub taken : All (λ position. (request : Request) × IsAsked work book.ends position request) book.taken
-  pub runs : All (λ run. IsAsked work book.ends run.position run.request) book.runs
-  pub ends : All (IsAnswered answer work book.ends) book.ends
-  pub runs_over : All (IsRunOver work) book.runs
-  pub ends_over : All (IsEndOver work) book.ends
+pub record AreAnswered (answer : Request → Exit) (work : Work) (progress : BuildProgress) : Type 0 where
+  pub taken : All (λ position. (request : Request) × IsAsked work progress.ends position request) progress.taken
+  pub runs : All (λ run. IsAsked work progress.ends run.position run.request) progress.runs
+  pub ends : All (IsAnswered answer work progress.ends) progress.ends
+  pub runs_over : All (IsRunOver work) progress.runs
+  pub ends_over : All (IsEndOver work) progress.ends
 
 module _ (answer : Request → Exit) (work : Work) (ordered : (position : ℕ) → All (λ dep. dep < position) (deps_at work.graph position)) where
   -- more ends change none of it
-  taken_more : (book : Book) (more : List End) → AreAnswered answer work book → All (λ position. (request : Request) × IsAsked work (book.ends ++ more) position request) book.taken
-  taken_more book more is k d lt = let it = is.taken k d lt in (it.0, asked_more work book.ends more (get_or book.taken k d) it.0 it.1)
+  taken_more : (progress : BuildProgress) (more : List End) → AreAnswered answer work progress → All (λ position. (request : Request) × IsAsked work (progress.ends ++ more) position request) progress.taken
+  taken_more progress more is k d lt = let it = is.taken k d lt in (it.0, asked_more work progress.ends more (get_or progress.taken k d) it.0 it.1)
 
-  run_start : (book : Book) (ticket : ℕ) (request : Request) (next : Option ℕ) → next_position work book ≡ next → option_and_then (request_at work book.ends) next ≡ Some request → IsAsked work book.ends (unwrap_or next 0) request
-  run_start book ticket request None e asks = absurd (none-some request asks)
-  run_start book ticket request (Some position) e asks = start_asked work ordered book position request e asks
+  run_start : (progress : BuildProgress) (ticket : ℕ) (request : Request) (next : Option ℕ) → next_position work progress ≡ next → option_and_then (request_at work progress.ends) next ≡ Some request → IsAsked work progress.ends (unwrap_or next 0) request
+  run_start progress ticket request None e asks = absurd (none-some request asks)
+  run_start progress ticket request (Some position) e asks = start_asked work ordered progress position request e asks
 
-  run_over : (book : Book) (request : Request) (next : Option ℕ) → option_and_then (request_at work book.ends) next ≡ Some request → request_over work.graph (unwrap_or next 0) (files_below work book.ends (unwrap_or next 0)) ≡ Some request
-  run_over book request None asks = absurd (none-some request asks)
-  run_over book request (Some position) asks = sym (request_is work book.ends position) ∙ asks
+  run_over : (progress : BuildProgress) (request : Request) (next : Option ℕ) → option_and_then (request_at work progress.ends) next ≡ Some request → request_over work.graph (unwrap_or next 0) (files_below work progress.ends (unwrap_or next 0)) ≡ Some request
+  run_over progress request None asks = absurd (none-some request asks)
+  run_over progress request (Some position) asks = sym (request_is work progress.ends position) ∙ asks
 
-  started_answers : (book : Book) → AreAnswered answer work book → (ticket : ℕ) (request : Request) → option_and_then (request_at work book.ends) (next_position work book) ≡ Some request → AreAnswered answer work (after work book (Started ticket request))
+  started_answers : (progress : BuildProgress) → AreAnswered answer work progress → (ticket : ℕ) (request : Request) → option_and_then (request_at work progress.ends) (next_position work progress) ≡ Some request → AreAnswered answer work (after work progress (Started ticket request))
   unfolding after
-  started_answers book is ticket request asks =
-      let position : ℕ = unwrap_or (next_position work book) 0 in
-      let new : IsAsked work book.ends position request = run_start book ticket request (next_position work book) refl asks in
-      let run : Run = record { ticket = ticket; position = position; request = request; below = files_below work book.ends position } in
+  started_answers progress is ticket request asks =
+      let position : ℕ = unwrap_or (next_position work progress) 0 in
+      let new : IsAsked work progress.ends position request = run_start progress ticket request (next_position work progress) refl asks in
+      let run : Run = record { ticket = ticket; position = position; request = request; below = files_below work progress.ends position } in
       record {
-        taken = All-push (λ position. (r : Request) × IsAsked work book.ends position r) book.taken position is.taken (request, new);
-        runs = All-push (λ run. IsAsked work book.ends run.position run.request) book.runs run is.runs new;
+        taken = All-push (λ position. (r : Request) × IsAsked work progress.ends position r) progress.taken position is.taken (request, new);
+        runs = All-push (λ run. IsAsked work progress.ends run.position run.request) progress.runs run is.runs new;
         ends = is.ends;
-        runs_over = All-push (IsRunOver work) book.runs run is.runs_over (run_over book request (next_position work book) asks);
+        runs_over = All-push (IsRunOver work) progress.runs run is.runs_over (run_over progress request (next_position work progress) asks);
         ends_over = is.ends_over;
       }
 
   -- the end of a child that was asked
-  end_answers : (book : Book) → AreAnswered answer work book → (ticket : ℕ) (exit : Exit) (run : Option Run) → run_of ticket book.runs ≡ run → option_map (λ r. answer r.request) run ≡ Some exit
-      → All (IsAnswered answer work (book.ends ++ end_of run exit)) (end_of run exit)
-  end_answers book is ticket exit None e says = absurd (none-some exit says)
-  end_answers book is ticket exit (Some run) e says =
+  end_answers : (progress : BuildProgress) → AreAnswered answer work progress → (ticket : ℕ) (exit : Exit) (run : Option Run) → run_of ticket progress.runs ≡ run → option_map (λ r. answer r.request) run ≡ Some exit
+      → All (IsAnswered answer work (progress.ends ++ end_of run exit)) (end_of run exit)
+  end_answers progress is ticket exit None e says = absurd (none-some exit says)
+  end_answers progress is ticket exit (Some run) e says =
       let end : End = record { position = run.position; request = run.request; below = run.below; exit = exit } in
-      let asked : IsAsked work book.ends run.position run.request = run_found (λ r. IsAsked work book.ends r.position r.request) book.runs ticket run e is.runs in
-      All-cons (IsAnswered answer work (book.ends ++ end ∷ [])) end [] (record { is = asked_more work book.ends (end ∷ []) run.position run.request asked; answered = sym (same_Some (answer run.request) exit says) })
-      (All-nil (IsAnswered answer work (book.ends ++ end ∷ [])))
+      let asked : IsAsked work progress.ends run.position run.request = run_found (λ r. IsAsked work progress.ends r.position r.request) progress.runs ticket run e is.runs in
+      All-cons (IsAnswered answer work (progress.ends ++ end ∷ [])) end [] (record { is = asked_more work progress.ends (end ∷ []) run.position run.request asked; answered = sym (same_Some (answer run.request) exit says) })
+      (All-nil (IsAnswered answer work (progress.ends ++ end ∷ [])))
 
-  end_over : (book : Book) → AreAnswered answer work book → (ticket : ℕ) (exit : Exit) (run : Option Run) → run_of ticket book.runs ≡ run → option_map (λ r. answer r.request) run ≡ Some exit → All (IsEndOver work) (end_of run exit)
-  end_over book is ticket exit None e says = absurd (none-some exit says)
-  end_over book is ticket exit (Some run) e says =
-      All-cons (IsEndOver work) (record { position = run.position; request = run.request; below = run.below; exit = exit }) [] (run_found (IsRunOver work) book.runs ticket run e is.runs_over) (All-nil (IsEndOver work))
+  end_over : (progress : BuildProgress) → AreAnswered answer work progress → (ticket : ℕ) (exit : Exit) (run : Option Run) → run_of ticket progress.runs ≡ run → option_map (λ r. answer r.request) run ≡ Some exit → All (IsEndOver work) (end_of run exit)
+  end_over progress is ticket exit None e says = absurd (none-some exit says)
+  end_over progress is ticket exit (Some run) e says =
+      All-cons (IsEndOver work) (record { position = run.position; request = run.request; below = run.below; exit = exit }) [] (run_found (IsRunOver work) progress.runs ticket run e is.runs_over) (All-nil (IsEndOver work))
 
-  ended_answers : (book : Book) → AreAnswered answer work book → (ticket : ℕ) (exit : Exit) → option_map (λ r. answer r.request) (run_of ticket book.runs) ≡ Some exit → AreAnswered answer work (after work book (Ended ticket exit))
+  ended_answers : (progress : BuildProgress) → AreAnswered answer work progress → (ticket : ℕ) (exit : Exit) → option_map (λ r. answer r.request) (run_of ticket progress.runs) ≡ Some exit → AreAnswered answer work (after work progress (Ended ticket exit))
   unfolding after
-  ended_answers book is ticket exit says =
-      let more : List End = end_of (run_of ticket book.runs) exit in
+  ended_answers progress is ticket exit says =
+      let more : List End = end_of (run_of ticket progress.runs) exit in
       record {
-        taken = taken_more book more is;
-        runs = All-weaker (λ run. IsAsked work book.ends run.position run.request) (λ run. IsAsked work (book.ends ++ more) run.position run.request) (λ run asked. asked_more work book.ends more run.position run.request asked)
-            (others_of ticket book.runs) (All-others (λ run. IsAsked work book.ends run.position run.request) book.runs ticket is.runs);
-        ends = All-append (IsAnswered answer work (book.ends ++ more)) book.ends more
-            (All-weaker (IsAnswered answer work book.ends) (IsAnswered answer work (book.ends ++ more)) (λ end answered. is_answered_more answer work book.ends more end answered) book.ends is.ends)
-            (end_answers book is ticket exit (run_of ticket book.runs) refl says);
-        runs_over = All-others (IsRunOver work) book.runs ticket is.runs_over;
-        ends_over = All-append (IsEndOver work) book.ends more is.ends_over (end_over book is ticket exit (run_of ticket book.runs) refl says);
+        taken = taken_more progress more is;
+        runs = All-weaker (λ run. IsAsked work progress.ends run.position run.request) (λ run. IsAsked work (progress.ends ++ more) run.position run.request) (λ run asked. asked_more work progress.ends more run.position run.request asked)
+            (others_of ticket progress.runs) (All-others (λ run. IsAsked work progress.ends run.position run.request) progress.runs ticket is.runs);
+        ends = All-append (IsAnswered answer work (progress.ends ++ more)) progress.ends more
+            (All-weaker (IsAnswered answer work progress.ends) (IsAnswered answer work (progress.ends ++ more)) (λ end answered. is_answered_more answer work progress.ends more end answered) progress.ends is.ends)
+            (end_answers progress is ticket exit (run_of ticket progress.runs) refl says);
+        runs_over = All-others (IsRunOver work) progress.runs ticket is.runs_over;
+        ends_over = All-append (IsEndOver work) progress.ends more is.ends_over (end_over progress is ticket exit (run_of ticket progress.runs) refl says);
       }
 
-  gone_answers : (book : Book) → AreAnswered answer work book → (ticket : ℕ) → AreAnswered answer work (after work book (Gone ticket))
+  gone_answers : (progress : BuildProgress) → AreAnswered answer work progress → (ticket : ℕ) → AreAnswered answer work (after work progress (Gone ticket))
   unfolding after
-  gone_answers book is ticket = record {
+  gone_answers progress is ticket = record {
     taken = is.taken;
-    runs = All-others (λ run. IsAsked work book.ends run.position run.request) book.runs ticket is.runs;
+    runs = All-others (λ run. IsAsked work progress.ends run.position run.request) progress.runs ticket is.runs;
     ends = is.ends;
-    runs_over = All-others (IsRunOver work) book.runs ticket is.runs_over;
+    runs_over = All-others (IsRunOver work) progress.runs ticket is.runs_over;
     ends_over = is.ends_over;
   }
 
-  answers_after : (book : Book) → AreAnswered answer work book → (events : List Event) → Steps answer work book events → AreAnswered answer work (after_all work book events)
+  answers_after : (progress : BuildProgress) → AreAnswered answer work progress → (events : List Event) → Steps answer work progress events → AreAnswered answer work (after_all work progress events)
   unfolding after_all Steps
-  answers_after book is [] steps = is
-  answers_after book is (Started ticket request ∷ events) steps = answers_after (after work book (Started ticket request)) (started_answers book is ticket request steps.0.least) events steps.1
-  answers_after book is (Ended ticket exit ∷ events) steps = answers_after (after work book (Ended ticket exit)) (ended_answers book is ticket exit steps.0) events steps.1
-  answers_after book is (Gone ticket ∷ events) steps = answers_after (after work book (Gone ticket)) (gone_answers book is ticket) events steps
+  answers_after progress is [] steps = is
+  answers_after progress is (Started ticket request ∷ events) steps = answers_after (after work progress (Started ticket request)) (started_answers progress is ticket request steps.0.least) events steps.1
+  answers_after progress is (Ended ticket exit ∷ events) steps = answers_after (after work progress (Ended ticket exit)) (ended_answers progress is ticket exit steps.0) events steps.1
+  answers_after progress is (Gone ticket ∷ events) steps = answers_after (after work progress (Gone ticket)) (gone_answers progress is ticket) events steps
 
   -- so it is of a lawful journal from the start
-  pub answers_of : (events : List Event) → Lawful work events → Answered answer events → AreAnswered answer work (book_of work events)
+  pub answers_of : (events : List Event) → Lawful work events → Answered answer events → AreAnswered answer work (progress_of work events)
   answers_of events lawful answered =
-      answers_after empty_book (record {
+      answers_after empty_progress (record {
         taken = All-nil (λ position. (request : Request) × IsAsked work [] position request);
         runs = All-nil (λ run. IsAsked work [] run.position run.request);
         ends = All-nil (IsAnswered answer work []);

@@ -11,12 +11,12 @@ use Rattle.base.specs.declared.child.Request.{Request}
 use Rattle.base.specs.declared.child.Exit.{Exit}
 use Rattle.base.specs.declared.child.Event.{Event}
 use Rattle.base.specs.declared.child.Event.TheVariants.{Started, Ended, Gone}
-use Rattle.run_spec.specs.ChildJournal.{Work, Run, End, Book, empty_book, exit_at, next_position, files_below, run_of, others_of, end_of, after, after_all, book_of, Answered, Lawful, is_gone}
+use Rattle.run_spec.specs.ChildJournal.{Work, Run, End, BuildProgress, empty_progress, exit_at, next_position, files_below, run_of, others_of, end_of, after, after_all, progress_of, Answered, Lawful, is_gone}
 use Rattle.run_spec.specs.Settled.{has_ended}
 use Rattle.run_spec.proofs.Steps.{Steps, run_found, All-others, steps_of}
 
-abbrev pub was_taken : Book → ℕ → Bool
-was_taken book position = list_any (λ other. eqb other position) book.taken
+abbrev pub was_taken : BuildProgress → ℕ → Bool
+was_taken progress position = list_any (λ other. eqb other position) progress.taken
 
 abbrev pub runs_at : List Run → ℕ → Bool
 runs_at runs position = list_any (λ run. eqb run.position position) runs
@@ -27,13 +27,13 @@ is_refusal end = not (eqb end.exit.code 0)
 
 -- all that runs or has ended was taken; where no end was lost all that was taken runs or has ended, and what halts is a
 -- refusal; a build that is not halted has lost no end, and, unless it goes on after refusals, has none
-pub record IsOrderly (setting : Work) (lost : Bool) (book : Book) : Type 0 where
-  pub runs : All (λ run. was_taken book run.position ≡ true) book.runs
-  pub ends : All (λ end. was_taken book end.position ≡ true) book.ends
-  pub in_step : lost ≡ false → (position : ℕ) → was_taken book position ≡ true → (runs_at book.runs position || has_ended book.ends position) ≡ true
-  pub halts : lost ≡ false → book.halted ≡ true → list_any is_refusal book.ends ≡ true
-  pub goes_on : book.halted ≡ false → lost ≡ false
-  pub accepts : setting.keep_going ≡ false → book.halted ≡ false → All (λ end. eqb end.exit.code 0 ≡ true) book.ends
+pub record IsOrderly (setting : Work) (lost : Bool) (progress : BuildProgress) : Type 0 where
+  pub runs : All (λ run. was_taken progress run.position ≡ true) progress.runs
+  pub ends : All (λ end. was_taken progress end.position ≡ true) progress.ends
+  pub in_step : lost ≡ false → (position : ℕ) → was_taken progress position ≡ true → (runs_at progress.runs position || has_ended progress.ends position) ≡ true
+  pub halts : lost ≡ false → progress.halted ≡ true → list_any is_refusal progress.ends ≡ true
+  pub goes_on : progress.halted ≡ false → lost ≡ false
+  pub accepts : setting.keep_going ≡ false → progress.halted ≡ false → All (λ end. eqb end.exit.code 0 ≡ true) progress.ends
 
 not_both : {X : Type 0} → true ≡ false → X
 not_both h = let nothing : ⊥ = cc in absurd nothing
@@ -73,58 +73,58 @@ ended_run answer None exit h = absurd (none-some exit h)
 ended_run answer (Some run) exit h = (run, refl)
 
 module _ (answer : Request → Exit) (setting : Work) where
-  pub started_orderly : (lost : Bool) (book : Book) → IsOrderly setting lost book → (ticket : ℕ) (request : Request) → IsOrderly setting lost (after setting book (Started ticket request))
+  pub started_orderly : (lost : Bool) (progress : BuildProgress) → IsOrderly setting lost progress → (ticket : ℕ) (request : Request) → IsOrderly setting lost (after setting progress (Started ticket request))
   unfolding after
-  started_orderly lost book is ticket request =
-      let position : ℕ = unwrap_or (next_position setting book) 0 in
-      let run : Run = record { ticket = ticket; position = position; request = request; below = files_below setting book.ends position } in
-      let grows : (k : ℕ) → was_taken book k ≡ true → list_any (λ other. eqb other k) (book.taken ++ position ∷ []) ≡ true =
-      λ k t. list_any-append (λ other. eqb other k) book.taken (position ∷ []) ∙ or_left _ _ t in
-      let own : list_any (λ other. eqb other position) (book.taken ++ position ∷ []) ≡ true =
-      list_any-append (λ other. eqb other position) book.taken (position ∷ []) ∙ or_right _ _ (or_left _ _ (eq-eqb position position refl)) in
+  started_orderly lost progress is ticket request =
+      let position : ℕ = unwrap_or (next_position setting progress) 0 in
+      let run : Run = record { ticket = ticket; position = position; request = request; below = files_below setting progress.ends position } in
+      let grows : (k : ℕ) → was_taken progress k ≡ true → list_any (λ other. eqb other k) (progress.taken ++ position ∷ []) ≡ true =
+      λ k t. list_any-append (λ other. eqb other k) progress.taken (position ∷ []) ∙ or_left _ _ t in
+      let own : list_any (λ other. eqb other position) (progress.taken ++ position ∷ []) ≡ true =
+      list_any-append (λ other. eqb other position) progress.taken (position ∷ []) ∙ or_right _ _ (or_left _ _ (eq-eqb position position refl)) in
       record {
-        runs = All-push (λ r. list_any (λ other. eqb other r.position) (book.taken ++ position ∷ []) ≡ true) book.runs run (All-weaker _ _ (λ r t. grows r.position t) book.runs is.runs) own;
-        ends = All-weaker _ _ (λ e t. grows e.position t) book.ends is.ends;
+        runs = All-push (λ r. list_any (λ other. eqb other r.position) (progress.taken ++ position ∷ []) ≡ true) progress.runs run (All-weaker _ _ (λ r t. grows r.position t) progress.runs is.runs) own;
+        ends = All-weaker _ _ (λ e t. grows e.position t) progress.ends is.ends;
         in_step = λ none k t.
-            let more : runs_at (book.runs ++ run ∷ []) k ≡ (runs_at book.runs k || (eqb position k || false)) = list_any-append (λ r. eqb r.position k) book.runs (run ∷ []) in
-            elim (or_cases (was_taken book k) (eqb position k || false) (sym (list_any-append (λ other. eqb other k) book.taken (position ∷ [])) ∙ t)) [
-              | inl old ↦ elim (or_cases (runs_at book.runs k) (has_ended book.ends k) (is.in_step none k old)) [
-                | inl on ↦ or_left (runs_at (book.runs ++ run ∷ []) k) (has_ended book.ends k) (more ∙ or_left (runs_at book.runs k) (eqb position k || false) on)
-                | inr done ↦ or_right (runs_at (book.runs ++ run ∷ []) k) (has_ended book.ends k) done
+            let more : runs_at (progress.runs ++ run ∷ []) k ≡ (runs_at progress.runs k || (eqb position k || false)) = list_any-append (λ r. eqb r.position k) progress.runs (run ∷ []) in
+            elim (or_cases (was_taken progress k) (eqb position k || false) (sym (list_any-append (λ other. eqb other k) progress.taken (position ∷ [])) ∙ t)) [
+              | inl old ↦ elim (or_cases (runs_at progress.runs k) (has_ended progress.ends k) (is.in_step none k old)) [
+                | inl on ↦ or_left (runs_at (progress.runs ++ run ∷ []) k) (has_ended progress.ends k) (more ∙ or_left (runs_at progress.runs k) (eqb position k || false) on)
+                | inr done ↦ or_right (runs_at (progress.runs ++ run ∷ []) k) (has_ended progress.ends k) done
               ]
-              | inr new ↦ or_left (runs_at (book.runs ++ run ∷ []) k) (has_ended book.ends k) (more ∙ or_right (runs_at book.runs k) (eqb position k || false) new)
+              | inr new ↦ or_left (runs_at (progress.runs ++ run ∷ []) k) (has_ended progress.ends k) (more ∙ or_right (runs_at progress.runs k) (eqb position k || false) new)
             ];
         halts = is.halts;
         goes_on = is.goes_on;
         accepts = is.accepts;
       }
 
-  pub ended_orderly : (lost : Bool) (book : Book) → IsOrderly setting lost book → (ticket : ℕ) (exit : Exit) → option_map (λ run. answer run.request) (run_of ticket book.runs) ≡ Some exit →
-      IsOrderly setting lost (after setting book (Ended ticket exit))
+  pub ended_orderly : (lost : Bool) (progress : BuildProgress) → IsOrderly setting lost progress → (ticket : ℕ) (exit : Exit) → option_map (λ run. answer run.request) (run_of ticket progress.runs) ≡ Some exit →
+      IsOrderly setting lost (after setting progress (Ended ticket exit))
   unfolding after
-  ended_orderly lost book is ticket exit h =
-      let found = ended_run answer (run_of ticket book.runs) exit h in
+  ended_orderly lost progress is ticket exit h =
+      let found = ended_run answer (run_of ticket progress.runs) exit h in
       let run : Run = found.0 in
       let end : End = record { position = run.position; request = run.request; below = run.below; exit = exit } in
-      let is_end : end_of (run_of ticket book.runs) exit ≡ end ∷ [] = ap (λ (r : Option Run). end_of r exit) found.1 in
-      let taken : was_taken book run.position ≡ true = run_found (λ r. was_taken book r.position ≡ true) book.runs ticket run found.1 is.runs in
+      let is_end : end_of (run_of ticket progress.runs) exit ≡ end ∷ [] = ap (λ (r : Option Run). end_of r exit) found.1 in
+      let taken : was_taken progress run.position ≡ true = run_found (λ r. was_taken progress r.position ≡ true) progress.runs ticket run found.1 is.runs in
       record {
-        runs = All-others (λ r. was_taken book r.position ≡ true) book.runs ticket is.runs;
-        ends = subst (λ (more : List End). All (λ e. was_taken book e.position ≡ true) (book.ends ++ more)) (sym is_end) (All-push (λ e. was_taken book e.position ≡ true) book.ends end is.ends taken);
+        runs = All-others (λ r. was_taken progress r.position ≡ true) progress.runs ticket is.runs;
+        ends = subst (λ (more : List End). All (λ e. was_taken progress e.position ≡ true) (progress.ends ++ more)) (sym is_end) (All-push (λ e. was_taken progress e.position ≡ true) progress.ends end is.ends taken);
         in_step = λ none k t.
-            let more = has_ended-append book.ends (end_of (run_of ticket book.runs) exit) k in
-            let left : Bool = runs_at (others_of ticket book.runs) k in
-            let ended : Bool = has_ended (end_of (run_of ticket book.runs) exit) k in
-            let all : Bool = has_ended (book.ends ++ end_of (run_of ticket book.runs) exit) k in
-            elim (or_cases (runs_at book.runs k) (has_ended book.ends k) (is.in_step none k t)) [
-              | inl on ↦ elim (or_cases left ended (others_stand book.runs ticket exit k on)) [
+            let more = has_ended-append progress.ends (end_of (run_of ticket progress.runs) exit) k in
+            let left : Bool = runs_at (others_of ticket progress.runs) k in
+            let ended : Bool = has_ended (end_of (run_of ticket progress.runs) exit) k in
+            let all : Bool = has_ended (progress.ends ++ end_of (run_of ticket progress.runs) exit) k in
+            elim (or_cases (runs_at progress.runs k) (has_ended progress.ends k) (is.in_step none k t)) [
+              | inl on ↦ elim (or_cases left ended (others_stand progress.runs ticket exit k on)) [
                 | inl still ↦ or_left left all still
-                | inr done ↦ or_right left all (more ∙ or_right (has_ended book.ends k) ended done)
+                | inr done ↦ or_right left all (more ∙ or_right (has_ended progress.ends k) ended done)
               ]
-              | inr done ↦ or_right left all (more ∙ or_left (has_ended book.ends k) ended done)
+              | inr done ↦ or_right left all (more ∙ or_left (has_ended progress.ends k) ended done)
             ];
         halts = λ none halted.
-            let more = list_any-append is_refusal book.ends (end_of (run_of ticket book.runs) exit) in
+            let more = list_any-append is_refusal progress.ends (end_of (run_of ticket progress.runs) exit) in
             more ∙ elim (or_cases _ _ halted) [
               | inl old ↦ or_left _ _ (is.halts none old)
               | inr new ↦ or_right _ _ (ap (list_any is_refusal) is_end ∙ or_left (not (eqb exit.code 0)) false (and_parts (not setting.keep_going) (not (eqb exit.code 0)) new).1)
@@ -136,14 +136,14 @@ module _ (answer : Request → Exit) (setting : Work) where
               | inl kept ↦ not_both (sym (ap not keep) ∙ kept)
               | inr code ↦ not-false _ code
             ] in
-            subst (λ (more : List End). All (λ e. eqb e.exit.code 0 ≡ true) (book.ends ++ more)) (sym is_end)
-            (All-push (λ e. eqb e.exit.code 0 ≡ true) book.ends end (is.accepts keep parts.0) zero_code);
+            subst (λ (more : List End). All (λ e. eqb e.exit.code 0 ≡ true) (progress.ends ++ more)) (sym is_end)
+            (All-push (λ e. eqb e.exit.code 0 ≡ true) progress.ends end (is.accepts keep parts.0) zero_code);
       }
 
-  pub gone_orderly : (lost : Bool) (book : Book) → IsOrderly setting lost book → (ticket : ℕ) → IsOrderly setting true (after setting book (Gone ticket))
+  pub gone_orderly : (lost : Bool) (progress : BuildProgress) → IsOrderly setting lost progress → (ticket : ℕ) → IsOrderly setting true (after setting progress (Gone ticket))
   unfolding after
-  gone_orderly lost book is ticket = record {
-    runs = All-others (λ r. was_taken book r.position ≡ true) book.runs ticket is.runs;
+  gone_orderly lost progress is ticket = record {
+    runs = All-others (λ r. was_taken progress r.position ≡ true) progress.runs ticket is.runs;
     ends = is.ends;
     in_step = λ none. not_both none;
     halts = λ none. not_both none;
@@ -152,23 +152,23 @@ module _ (answer : Request → Exit) (setting : Work) where
   }
 
   -- events keep it
-  pub orderly_after : (lost : Bool) (book : Book) → IsOrderly setting lost book → (events : List Event) → Steps answer setting book events →
-      IsOrderly setting (lost || list_any is_gone events) (after_all setting book events)
+  pub orderly_after : (lost : Bool) (progress : BuildProgress) → IsOrderly setting lost progress → (events : List Event) → Steps answer setting progress events →
+      IsOrderly setting (lost || list_any is_gone events) (after_all setting progress events)
   unfolding after_all Steps
-  orderly_after lost book is [] steps = subst (λ (b : Bool). IsOrderly setting b book) (sym (same lost)) is where
+  orderly_after lost progress is [] steps = subst (λ (b : Bool). IsOrderly setting b progress) (sym (same lost)) is where
     same : (b : Bool) → (b || false) ≡ b
     same true = refl
     same false = refl
-  orderly_after lost book is (Started ticket request ∷ events) steps = orderly_after lost (after setting book (Started ticket request)) (started_orderly lost book is ticket request) events steps.1
-  orderly_after lost book is (Ended ticket exit ∷ events) steps = orderly_after lost (after setting book (Ended ticket exit)) (ended_orderly lost book is ticket exit steps.0) events steps.1
-  orderly_after lost book is (Gone ticket ∷ events) steps =
-      subst (λ (b : Bool). IsOrderly setting b (after_all setting (after setting book (Gone ticket)) events)) (sym (or_right lost true refl))
-      (orderly_after true (after setting book (Gone ticket)) (gone_orderly lost book is ticket) events steps)
+  orderly_after lost progress is (Started ticket request ∷ events) steps = orderly_after lost (after setting progress (Started ticket request)) (started_orderly lost progress is ticket request) events steps.1
+  orderly_after lost progress is (Ended ticket exit ∷ events) steps = orderly_after lost (after setting progress (Ended ticket exit)) (ended_orderly lost progress is ticket exit steps.0) events steps.1
+  orderly_after lost progress is (Gone ticket ∷ events) steps =
+      subst (λ (b : Bool). IsOrderly setting b (after_all setting (after setting progress (Gone ticket)) events)) (sym (or_right lost true refl))
+      (orderly_after true (after setting progress (Gone ticket)) (gone_orderly lost progress is ticket) events steps)
 
-  pub orderly_at_first : IsOrderly setting false empty_book
+  pub orderly_at_first : IsOrderly setting false empty_progress
   orderly_at_first = record {
-    runs = All-nil (λ run. was_taken empty_book run.position ≡ true);
-    ends = All-nil (λ end. was_taken empty_book end.position ≡ true);
+    runs = All-nil (λ run. was_taken empty_progress run.position ≡ true);
+    ends = All-nil (λ end. was_taken empty_progress end.position ≡ true);
     in_step = λ none position t. not_both (sym t);
     halts = λ none t. not_both (sym t);
     goes_on = λ on. refl;
@@ -176,8 +176,8 @@ module _ (answer : Request → Exit) (setting : Work) where
   }
 
   -- a journal from the start is so
-  pub orderly_book : (events : List Event) → Lawful setting events → Answered answer events → IsOrderly setting (list_any is_gone events) (book_of setting events)
-  orderly_book events lawful answered = orderly_after false empty_book orderly_at_first events (steps_of answer setting events lawful answered)
+  pub orderly_progress : (events : List Event) → Lawful setting events → Answered answer events → IsOrderly setting (list_any is_gone events) (progress_of setting events)
+  orderly_progress events lawful answered = orderly_after false empty_progress orderly_at_first events (steps_of answer setting events lawful answered)
 
 -- a test that each item passes
 pub list_all-from_All : {X : Type 0} (p : X → Bool) (xs : List X) → All (λ x. p x ≡ true) xs → list_all p xs ≡ true

@@ -15,9 +15,9 @@ use Rattle.base.specs.declared.child.Event.TheVariants.{Started}
 use Rattle.base.specs.Graphs.{IsGraph}
 use Rattle.base.specs.PresentGraph.{below}
 use Rattle.outside.specs.Records.{deps_at}
-use Rattle.run_spec.specs.Marks.{mark_of, mark_at, marks_of, steady_mark, steady_marks, is_refused, NoRefusalHalts}
+use Rattle.run_spec.specs.Statuses.{status_of, status_at, statuses_of, steady_status, steady_statuses, is_refused, NoRefusalHalts}
 use Rattle.run_spec.specs.Moves.{is_startable}
-use Rattle.run_spec.specs.ChildJournal.{Work, Run, End, Book, empty_book, child_of_end, exit_at, output_at, or_else, has_all, artefact_so_far, artefact_after, job_of, core_of, next_position, request_at, book_of, Lawful, Answered, IsWhole}
+use Rattle.run_spec.specs.ChildJournal.{Work, Run, End, BuildProgress, empty_progress, child_of_end, exit_at, output_at, or_else, has_all, artefact_so_far, artefact_after, workload_of, schedule_of, next_position, request_at, progress_of, Lawful, Answered, IsWhole}
 use Rattle.run_spec.specs.Settled as settled
 use Rattle.run_spec.specs.Settled.{Settled, settled_artefact, settled_by, settled_by_exit, settle, artefact_settled, is_asked, request_unless, request_over, IsAsked, IsAnswered, has_ended, IsOver}
 use Rattle.run_spec.proofs.Artefacts.{deps_before, artefact_free}
@@ -25,8 +25,8 @@ use Rattle.run_spec.proofs.FoldLaws.{by_all_below}
 use Rattle.run_spec.proofs.Journal.{startable_is, no_runs}
 use Rattle.run_spec.proofs.Prefixes.{lawful_prefix, answered_prefix, requested_at}
 use Rattle.run_spec.proofs.SettledBuild.{settled_past, settles, whole, settle_is, ended_parts, ended_asked, first_exit, exit_over, current_over, asked_settled}
-use Rattle.run_laws.proofs.JournalBooks.{some_value, none_value, next_missing}
-use Rattle.run_laws.proofs.JournalKeeps.{was_taken, runs_at, is_refusal, IsOrderly, orderly_book, any_found}
+use Rattle.run_laws.proofs.JournalProgress.{some_value, none_value, next_missing}
+use Rattle.run_laws.proofs.JournalKeeps.{was_taken, runs_at, is_refusal, IsOrderly, orderly_progress, any_found}
 use Rattle.run_laws.proofs.JournalStarted.{asked_of, held, never_halted}
 use Rattle.run_laws.proofs.JournalAnswers.{AreAnswered, answers_of, asked_within, start_asked}
 
@@ -49,12 +49,12 @@ none-below p f (suc n) h k lt =
       | inr last ↦ let same : n ≡ k = omega arith in ap (λ (j : ℕ). p (f j)) (sym same) ∙ (or_parts (p (f n)) false parts.1).0
     ]
 
-taken_of_end : (book : Book) (k : ℕ) (xs : List End) → All (λ end. was_taken book end.position ≡ true) xs → has_ended xs k ≡ true → was_taken book k ≡ true
+taken_of_end : (progress : BuildProgress) (k : ℕ) (xs : List End) → All (λ end. was_taken progress end.position ≡ true) xs → has_ended xs k ≡ true → was_taken progress k ≡ true
 unfolding exit_at
-taken_of_end book k [] all has = absurd (false≢true has)
-taken_of_end book k (end ∷ xs) all has = elim (cases_Bool (end.position == k)) [
-  | inl here ↦ subst (λ i. was_taken book i ≡ true) (eqb-true end.position k here) (All-head (λ e. was_taken book e.position ≡ true) end xs all)
-  | inr other ↦ taken_of_end book k xs (All-tail (λ e. was_taken book e.position ≡ true) end xs all) (sym (ap is_some (cond-false (end.position == k) (Some end.exit) (exit_at xs k) other)) ∙ has)
+taken_of_end progress k [] all has = absurd (false≢true has)
+taken_of_end progress k (end ∷ xs) all has = elim (cases_Bool (end.position == k)) [
+  | inl here ↦ subst (λ i. was_taken progress i ≡ true) (eqb-true end.position k here) (All-head (λ e. was_taken progress e.position ≡ true) end xs all)
+  | inr other ↦ taken_of_end progress k xs (All-tail (λ e. was_taken progress e.position ≡ true) end xs all) (sym (ap is_some (cond-false (end.position == k) (Some end.exit) (exit_at xs k) other)) ∙ has)
 ]
 
 has_all_from : (f : ℕ → Option (List ℕ)) (deps : List ℕ) → All (λ dep. is_some (f dep) ≡ true) deps → has_all f deps ≡ true
@@ -66,42 +66,42 @@ module _ (answer : Request → Exit) (work : Work) (graph : IsGraph work.graph) 
   abbrev ordered : (position : ℕ) → All (λ dep. dep < position) (deps_at work.graph position)
   ordered = deps_before work.graph graph
 
-  abbrev all_answers : (events : List Event) → Lawful work events → Answered answer events → AreAnswered answer work (book_of work events)
+  abbrev all_answers : (events : List Event) → Lawful work events → Answered answer events → AreAnswered answer work (progress_of work events)
   all_answers = answers_of answer work ordered
 
   -- whatever a build has by now of a file is what the settled build makes of it
   pub made_settled_so_far : (events : List Event) → Lawful work events → Answered answer events → (position : ℕ) (artefact : List ℕ) → artefact_after work events position ≡ Some artefact → artefact_settled answer work.graph work.current position ≡ Some artefact
-  made_settled_so_far events lawful answered position artefact is = settles answer work (book_of work events).ends ordered (all_answers events lawful answered).ends position artefact is
+  made_settled_so_far events lawful answered position artefact is = settles answer work (progress_of work events).ends ordered (all_answers events lawful answered).ends position artefact is
 
   -- each start asks what the settled build asks for the file that is started
   pub asked : (before rest : List Event) (ticket : ℕ) (request : Request) → Lawful work (before ++ Started ticket request ∷ rest) → Answered answer (before ++ Started ticket request ∷ rest)
-      → (position : ℕ) × (next_position work (book_of work before) ≡ Some position) × (request_unless answer work.graph work.current position ≡ Some request)
+      → (position : ℕ) × (next_position work (progress_of work before) ≡ Some position) × (request_unless answer work.graph work.current position ≡ Some request)
   asked before rest ticket request lawful answered =
-      let book : Book = book_of work before in
-      let answers : AreAnswered answer work book = all_answers before (lawful_prefix work before (Started ticket request ∷ rest) lawful) (answered_prefix answer before (Started ticket request ∷ rest) answered) in
-      let next = asked_of (request_at work book.ends) (next_position work book) request (requested_at work empty_book before (Started ticket request) rest lawful.requests) in
-      let is : IsAsked work book.ends next.0 request = start_asked work ordered book next.0 request next.1 next.2 in
-      (next.0, next.1, asked_settled answer work book.ends ordered answers.ends next.0 request (asked_within work book.ends next.0 request is) is)
+      let progress : BuildProgress = progress_of work before in
+      let answers : AreAnswered answer work progress = all_answers before (lawful_prefix work before (Started ticket request ∷ rest) lawful) (answered_prefix answer before (Started ticket request ∷ rest) answered) in
+      let next = asked_of (request_at work progress.ends) (next_position work progress) request (requested_at work empty_progress before (Started ticket request) rest lawful.requests) in
+      let is : IsAsked work progress.ends next.0 request = start_asked work ordered progress next.0 request next.1 next.2 in
+      (next.0, next.1, asked_settled answer work progress.ends ordered answers.ends next.0 request (asked_within work progress.ends next.0 request is) is)
 
   -- so that the settled build asks for each file that was started
-  pub started_stale : (events : List Event) → Lawful work events → Answered answer events → (position : ℕ) → Contains (book_of work events).taken position → (request : Request) × (request_unless answer work.graph work.current position ≡ Some request)
+  pub started_stale : (events : List Event) → Lawful work events → Answered answer events → (position : ℕ) → Contains (progress_of work events).taken position → (request : Request) × (request_unless answer work.graph work.current position ≡ Some request)
   started_stale events lawful answered position contains =
-      let answers : AreAnswered answer work (book_of work events) = all_answers events lawful answered in
-      let it = All-contains (λ position. (request : Request) × IsAsked work (book_of work events).ends position request) (book_of work events).taken position answers.taken contains in
-      (it.0, asked_settled answer work (book_of work events).ends ordered answers.ends position it.0 (asked_within work (book_of work events).ends position it.0 it.1) it.1)
+      let answers : AreAnswered answer work (progress_of work events) = all_answers events lawful answered in
+      let it = All-contains (λ position. (request : Request) × IsAsked work (progress_of work events).ends position request) (progress_of work events).taken position answers.taken contains in
+      (it.0, asked_settled answer work (progress_of work events).ends ordered answers.ends position it.0 (asked_within work (progress_of work events).ends position it.0 it.1) it.1)
 
   -- ## A build that ended by itself
 
-  module _ (book : Book) (answers : AreAnswered answer work book) (orderly : IsOrderly work false book) (idle : book.runs ≡ []) where
+  module _ (progress : BuildProgress) (answers : AreAnswered answer work progress) (orderly : IsOrderly work false progress) (idle : progress.runs ≡ []) where
     -- what was taken has ended
-    taken_ended : (k : ℕ) → was_taken book k ≡ true → has_ended book.ends k ≡ true
-    taken_ended k taken = subst (λ (runs : List Run). (runs_at runs k || has_ended book.ends k) ≡ true) idle (orderly.in_step refl k taken)
+    taken_ended : (k : ℕ) → was_taken progress k ≡ true → has_ended progress.ends k ≡ true
+    taken_ended k taken = subst (λ (runs : List Run). (runs_at runs k || has_ended progress.ends k) ≡ true) idle (orderly.in_step refl k taken)
 
     -- what the exit of a file that has ended says of it
-    ended_is : (k : ℕ) (exit : Exit) → k < length work.graph → exit_at book.ends k ≡ Some exit → (has_all (artefact_so_far work book.ends) (deps_at work.graph k) ≡ true) × (current_over answer work book.ends k ≡ None) × (exit_over answer work book.ends k ≡ Some exit)
+    ended_is : (k : ℕ) (exit : Exit) → k < length work.graph → exit_at progress.ends k ≡ Some exit → (has_all (artefact_so_far work progress.ends) (deps_at work.graph k) ≡ true) × (current_over answer work progress.ends k ≡ None) × (exit_over answer work progress.ends k ≡ Some exit)
     ended_is k exit lt is =
-        let parts = ended_parts answer work book.ends ordered answers.ends book.ends answers.ends k (ap is_some is) in
-        (parts.0, parts.1, first_exit answer work book.ends ordered answers.ends k exit is)
+        let parts = ended_parts answer work progress.ends ordered answers.ends progress.ends answers.ends k (ap is_some is) in
+        (parts.0, parts.1, first_exit answer work progress.ends ordered answers.ends k exit is)
 
     -- where its code isn't 0 nothing was printed
     nothing_printed : (k : ℕ) (exit : Exit) (xs : List End) → All (λ end. end.position ≡ k → end.exit ≡ exit) xs → (exit.code == 0) ≡ false → output_at (map child_of_end xs) k ≡ None
@@ -114,20 +114,20 @@ module _ (answer : Request → Exit) (work : Work) (graph : IsGraph work.graph) 
       | inr fails ↦ cond-false (end.position == k && end.exit.code == 0) (Some end.exit.output) (output_at (map child_of_end xs) k) fails ∙ nothing_printed k exit xs (λ j d l. all (suc j) d (omega arith)) bad
     ]
 
-    same_exits : (k : ℕ) (exit : Exit) → exit_over answer work book.ends k ≡ Some exit → All (λ end. end.position ≡ k → end.exit ≡ exit) book.ends
+    same_exits : (k : ℕ) (exit : Exit) → exit_over answer work progress.ends k ≡ Some exit → All (λ end. end.position ≡ k → end.exit ≡ exit) progress.ends
     same_exits k exit says j d l e =
-        let end : End = get_or book.ends j d in
-        let is : IsAnswered answer work book.ends end = answers.ends j d l in
-        let own : exit_over answer work book.ends end.position ≡ Some end.exit = ap (option_map answer) is.is.asked ∙ ap (λ (x : Exit). Some x) (sym is.answered) in
-        same_Some end.exit exit (sym own ∙ ap (exit_over answer work book.ends) e ∙ says)
+        let end : End = get_or progress.ends j d in
+        let is : IsAnswered answer work progress.ends end = answers.ends j d l in
+        let own : exit_over answer work progress.ends end.position ≡ Some end.exit = ap (option_map answer) is.is.asked ∙ ap (λ (x : Exit). Some x) (sym is.answered) in
+        same_Some end.exit exit (sym own ∙ ap (exit_over answer work progress.ends) e ∙ says)
 
-    refused_unmade : (k : ℕ) (exit : Exit) → k < length work.graph → exit_at book.ends k ≡ Some exit → (exit.code == 0) ≡ false → artefact_so_far work book.ends k ≡ None
+    refused_unmade : (k : ℕ) (exit : Exit) → k < length work.graph → exit_at progress.ends k ≡ Some exit → (exit.code == 0) ≡ false → artefact_so_far work progress.ends k ≡ None
     refused_unmade k exit lt is bad =
         let parts = ended_is k exit lt is in
-        artefact_free work ordered (map child_of_end book.ends) k lt parts.0
-        ∙ ap₂ or_else parts.1 (nothing_printed k exit book.ends (same_exits k exit parts.2) bad)
+        artefact_free work ordered (map child_of_end progress.ends) k lt parts.0
+        ∙ ap₂ or_else parts.1 (nothing_printed k exit progress.ends (same_exits k exit parts.2) bad)
 
-    -- where no mark is a refusal, no child was refused, so that the build isn't halted
+    -- where no status is a refusal, no child was refused, so that the build isn't halted
     exit_of_end : (end : End) (xs : List End) (j : ℕ) (d : End) → j < length xs → get_or xs j d ≡ end → (exit : Exit) × (exit_at xs end.position ≡ Some exit)
     unfolding exit_at
     exit_of_end end [] j d lt is = absurd (omega arith)
@@ -138,40 +138,40 @@ module _ (answer : Request → Exit) (work : Work) (graph : IsGraph work.graph) 
       | inr other ↦ let rest = exit_of_end end xs j d (omega arith) is in (rest.0, cond-false (first.position == end.position) (Some first.exit) (exit_at xs end.position) other ∙ rest.1)
     ]
 
-    module _ (accepted : (k : ℕ) → k < length work.graph → is_refused (mark_at work book.ends k) ≡ false) where
-      refusal_marked : (k : ℕ) (exit : Exit) → k < length work.graph → exit_at book.ends k ≡ Some exit → (exit.code == 0) ≡ true
-      refusal_marked k exit lt is = elim (cases_Bool (exit.code == 0)) [
+    module _ (accepted : (k : ℕ) → k < length work.graph → is_refused (status_at work progress.ends k) ≡ false) where
+      refusal_has_status : (k : ℕ) (exit : Exit) → k < length work.graph → exit_at progress.ends k ≡ Some exit → (exit.code == 0) ≡ true
+      refusal_has_status k exit lt is = elim (cases_Bool (exit.code == 0)) [
         | inl good ↦ good
         | inr bad ↦
-            let marked : mark_at work book.ends k ≡ mark_of work.keep_going (Some exit) None = ap₂ (mark_of work.keep_going) is (refused_unmade k exit lt is bad) in
-            absurd (true≢false (sym (ap is_refused marked) ∙ accepted k lt))
+            let has_status : status_at work progress.ends k ≡ status_of work.keep_going (Some exit) None = ap₂ (status_of work.keep_going) is (refused_unmade k exit lt is bad) in
+            absurd (true≢false (sym (ap is_refused has_status) ∙ accepted k lt))
       ]
 
-      pub unhalted_accepted : book.halted ≡ false
-      unhalted_accepted = elim (cases_Bool book.halted) [
+      pub unhalted_accepted : progress.halted ≡ false
+      unhalted_accepted = elim (cases_Bool progress.halted) [
         | inr on ↦ on
         | inl halted ↦
-            let both : All (λ end. IsAnswered answer work book.ends end × ((exit : Exit) × (exit_at book.ends end.position ≡ Some exit))) book.ends =
-            λ j d l. (answers.ends j d l, exit_of_end (get_or book.ends j d) book.ends j d l refl) in
-            let found = any_found is_refusal (λ end. IsAnswered answer work book.ends end × ((exit : Exit) × (exit_at book.ends end.position ≡ Some exit))) book.ends (orderly.halts refl halted) both in
+            let both : All (λ end. IsAnswered answer work progress.ends end × ((exit : Exit) × (exit_at progress.ends end.position ≡ Some exit))) progress.ends =
+            λ j d l. (answers.ends j d l, exit_of_end (get_or progress.ends j d) progress.ends j d l refl) in
+            let found = any_found is_refusal (λ end. IsAnswered answer work progress.ends end × ((exit : Exit) × (exit_at progress.ends end.position ≡ Some exit))) progress.ends (orderly.halts refl halted) both in
             let end : End = found.0 in
-            let lt : end.position < length work.graph = asked_within work book.ends end.position end.request found.2.0.is in
-            let good : (found.2.1.0.code == 0) ≡ true = refusal_marked end.position found.2.1.0 lt found.2.1.1 in
+            let lt : end.position < length work.graph = asked_within work progress.ends end.position end.request found.2.0.is in
+            let good : (found.2.1.0.code == 0) ≡ true = refusal_has_status end.position found.2.1.0 lt found.2.1.1 in
             let own : end.exit ≡ found.2.1.0 = same_end end found.2.0 found.2.1.0 lt found.2.1.1 in
             absurd (true≢false (sym (ap (λ (e : Exit). e.code == 0) own ∙ good) ∙ not-true (end.exit.code == 0) found.1))
       ]
         where
-          same_end : (end : End) → IsAnswered answer work book.ends end → (exit : Exit) → end.position < length work.graph → exit_at book.ends end.position ≡ Some exit → end.exit ≡ exit
+          same_end : (end : End) → IsAnswered answer work progress.ends end → (exit : Exit) → end.position < length work.graph → exit_at progress.ends end.position ≡ Some exit → end.exit ≡ exit
           same_end end is exit lt at =
-              let own : exit_over answer work book.ends end.position ≡ Some end.exit = ap (option_map answer) is.is.asked ∙ ap (λ (x : Exit). Some x) (sym is.answered) in
+              let own : exit_over answer work progress.ends end.position ≡ Some end.exit = ap (option_map answer) is.is.asked ∙ ap (λ (x : Exit). Some x) (sym is.answered) in
               same_Some end.exit exit (sym own ∙ (ended_is end.position exit lt at).2)
 
-    module _ (unhalted : book.halted ≡ false) (over : (is_none (next_position work book) || book.halted) ≡ true) where
-      closed : (k : ℕ) → k < length work.graph → is_startable (job_of work) (core_of book) k ≡ false
+    module _ (unhalted : progress.halted ≡ false) (over : (is_none (next_position work progress) || progress.halted) ≡ true) where
+      closed : (k : ℕ) → k < length work.graph → is_startable (workload_of work) (schedule_of progress) k ≡ false
       closed k lt =
-          elim (or_cases (is_none (next_position work book)) book.halted over) [
-            | inl none ↦ next_missing work book (none_value (next_position work book) none) k lt
-            | inr halted ↦ absurd (both_ways book.halted unhalted halted)
+          elim (or_cases (is_none (next_position work progress)) progress.halted over) [
+            | inl none ↦ next_missing work progress (none_value (next_position work progress) none) k lt
+            | inr halted ↦ absurd (both_ways progress.halted unhalted halted)
           ]
 
       open_one : (taken none all : Bool) → (not taken && none && all) ≡ false → all ≡ true → (taken ≡ true) ⊎ (none ≡ false)
@@ -179,11 +179,11 @@ module _ (answer : Request → Exit) (work : Work) (graph : IsGraph work.graph) 
       open_one false false all h a = inr refl
       open_one false true all h a = absurd (true≢false (sym a ∙ h))
 
-      is_over : IsOver work book.ends
+      is_over : IsOver work progress.ends
       unfolding has_all
-      is_over k lt all = elim (open_one (was_taken book k) (is_none (artefact_so_far work book.ends k)) (has_all (artefact_so_far work book.ends) (deps_at work.graph k)) (sym (startable_is work book k) ∙ closed k lt) all) [
-        | inl taken ↦ right (is_some (artefact_so_far work book.ends k)) (taken_ended k taken)
-        | inr made ↦ left (has_ended book.ends k) (some_from (artefact_so_far work book.ends k) made)
+      is_over k lt all = elim (open_one (was_taken progress k) (is_none (artefact_so_far work progress.ends k)) (has_all (artefact_so_far work progress.ends) (deps_at work.graph k)) (sym (startable_is work progress k) ∙ closed k lt) all) [
+        | inl taken ↦ right (is_some (artefact_so_far work progress.ends k)) (taken_ended k taken)
+        | inr made ↦ left (has_ended progress.ends k) (some_from (artefact_so_far work progress.ends k) made)
       ]
         where
           some_from : (o : Option (List ℕ)) → is_none o ≡ false → is_some o ≡ true
@@ -198,16 +198,16 @@ module _ (answer : Request → Exit) (work : Work) (graph : IsGraph work.graph) 
           left {a} b h = ap (λ c. c || b) h
 
       -- it has made what is settled
-      pub built_is : (k : ℕ) → artefact_so_far work book.ends k ≡ artefact_settled answer work.graph work.current k
-      built_is = whole answer work book.ends ordered answers.ends is_over
+      pub built_is : (k : ℕ) → artefact_so_far work progress.ends k ≡ artefact_settled answer work.graph work.current k
+      built_is = whole answer work progress.ends ordered answers.ends is_over
 
       -- it has started the files that the settled build asks for, and no others
-      pub started_are : (k : ℕ) → Contains book.taken k ↔ ((request : Request) × (request_unless answer work.graph work.current k ≡ Some request))
+      pub started_are : (k : ℕ) → Contains progress.taken k ↔ ((request : Request) × (request_unless answer work.graph work.current k ≡ Some request))
       started_are k = (
         λ contains.
-            let it = All-contains (λ position. (request : Request) × IsAsked work book.ends position request) book.taken k answers.taken contains in
-            (it.0, asked_settled answer work book.ends ordered answers.ends k it.0 (asked_within work book.ends k it.0 it.1) it.1),
-        λ asks. held book.taken k (taken_from k asks.0 asks.1),
+            let it = All-contains (λ position. (request : Request) × IsAsked work progress.ends position request) progress.taken k answers.taken contains in
+            (it.0, asked_settled answer work progress.ends ordered answers.ends k it.0 (asked_within work progress.ends k it.0 it.1) it.1),
+        λ asks. held progress.taken k (taken_from k asks.0 asks.1),
       )
         where
           asked_test : (k : ℕ) (request : Request) (test : Bool) (o : Option Request) → cond test o None ≡ Some request → test ≡ true
@@ -220,81 +220,81 @@ module _ (answer : Request → Exit) (work : Work) (graph : IsGraph work.graph) 
             | inr le ↦ absurd (false≢true (sym (ap is_asked (settled_past answer work.graph work.current k le)) ∙ is))
           ]
 
-          end_taken : (k : ℕ) (xs : List End) → All (λ end. was_taken book end.position ≡ true) xs → has_ended xs k ≡ true → was_taken book k ≡ true
-          end_taken k xs all has = taken_of_end book k xs all has
+          end_taken : (k : ℕ) (xs : List End) → All (λ end. was_taken progress end.position ≡ true) xs → has_ended xs k ≡ true → was_taken progress k ≡ true
+          end_taken k xs all has = taken_of_end progress k xs all has
 
-          taken_from : (k : ℕ) (request : Request) → request_unless answer work.graph work.current k ≡ Some request → was_taken book k ≡ true
+          taken_from : (k : ℕ) (request : Request) → request_unless answer work.graph work.current k ≡ Some request → was_taken progress k ≡ true
           taken_from k request is =
               let stale : is_asked (settle answer work.graph work.current k) ≡ true = asked_test k request (is_asked (settle answer work.graph work.current k)) _ is in
-              end_taken k book.ends orderly.ends (ended_asked answer work book.ends ordered answers.ends is_over k (in_graph k stale) ∙ stale)
+              end_taken k progress.ends orderly.ends (ended_asked answer work progress.ends ordered answers.ends is_over k (in_graph k stale) ∙ stale)
 
-      settled_mark_free : (keep : Bool) (s : Settled) (k : ℕ) → is_asked s ≡ false → (s ≡ settled.Blocked → keep ≡ true) → mark_of keep None (settled_artefact s) ≡ steady_mark s
-      settled_mark_free keep settled.Blocked k a b = ap (λ (t : Bool). mark_of t None None) (b refl)
-      settled_mark_free keep (settled.Fresh x) k a b = refl
-      settled_mark_free keep (settled.Compiled x) k a b = absurd (true≢false a)
-      settled_mark_free keep (settled.Refused code output) k a b = absurd (true≢false a)
+      settled_status_free : (keep : Bool) (s : Settled) (k : ℕ) → is_asked s ≡ false → (s ≡ settled.Blocked → keep ≡ true) → status_of keep None (settled_artefact s) ≡ steady_status s
+      settled_status_free keep settled.Blocked k a b = ap (λ (t : Bool). status_of t None None) (b refl)
+      settled_status_free keep (settled.Fresh x) k a b = refl
+      settled_status_free keep (settled.Compiled x) k a b = absurd (true≢false a)
+      settled_status_free keep (settled.Refused code output) k a b = absurd (true≢false a)
 
-      mark_ended : (k : ℕ) (exit : Exit) → mark_of work.keep_going (Some exit) (settled_artefact (settled_by_exit exit)) ≡ steady_mark (settled_by_exit exit)
-      mark_ended k exit = elim (cases_Bool (exit.code == 0)) [ inl good ↦ rw good refl | inr bad ↦ rw bad refl ]
+      status_ended : (k : ℕ) (exit : Exit) → status_of work.keep_going (Some exit) (settled_artefact (settled_by_exit exit)) ≡ steady_status (settled_by_exit exit)
+      status_ended k exit = elim (cases_Bool (exit.code == 0)) [ inl good ↦ rw good refl | inr bad ↦ rw bad refl ]
 
-      pub mark_is : (k : ℕ) → k < length work.graph → (settle answer work.graph work.current k ≡ settled.Blocked → work.keep_going ≡ true) → mark_at work book.ends k ≡ steady_mark (settle answer work.graph work.current k)
-      mark_is k lt blocked = from (exit_at book.ends k) refl
+      pub status_is : (k : ℕ) → k < length work.graph → (settle answer work.graph work.current k ≡ settled.Blocked → work.keep_going ≡ true) → status_at work progress.ends k ≡ steady_status (settle answer work.graph work.current k)
+      status_is k lt blocked = from (exit_at progress.ends k) refl
         where
-          from : (exit : Option Exit) → exit_at book.ends k ≡ exit → mark_at work book.ends k ≡ steady_mark (settle answer work.graph work.current k)
+          from : (exit : Option Exit) → exit_at progress.ends k ≡ exit → status_at work progress.ends k ≡ steady_status (settle answer work.graph work.current k)
           from (Some exit) e =
               let parts = ended_is k exit lt e in
               let is : settle answer work.graph work.current k ≡ settled_by_exit exit =
-              settle_is answer work book.ends ordered answers.ends is_over k lt
-              ∙ cond-true (has_all (artefact_so_far work book.ends) (deps_at work.graph k)) (settled_by (current_over answer work book.ends k) (exit_over answer work book.ends k)) settled.Blocked parts.0
+              settle_is answer work progress.ends ordered answers.ends is_over k lt
+              ∙ cond-true (has_all (artefact_so_far work progress.ends) (deps_at work.graph k)) (settled_by (current_over answer work progress.ends k) (exit_over answer work progress.ends k)) settled.Blocked parts.0
               ∙ ap₂ settled_by parts.1 parts.2 in
-              ap₂ (mark_of work.keep_going) e (built_is k ∙ ap settled_artefact is) ∙ mark_ended k exit ∙ ap steady_mark (sym is)
+              ap₂ (status_of work.keep_going) e (built_is k ∙ ap settled_artefact is) ∙ status_ended k exit ∙ ap steady_status (sym is)
           from None e =
-              ap₂ (mark_of work.keep_going) e (built_is k)
-              ∙ settled_mark_free work.keep_going (settle answer work.graph work.current k) k (sym (ended_asked answer work book.ends ordered answers.ends is_over k lt) ∙ ap is_some e) blocked
+              ap₂ (status_of work.keep_going) e (built_is k)
+              ∙ settled_status_free work.keep_going (settle answer work.graph work.current k) k (sym (ended_asked answer work progress.ends ordered answers.ends is_over k lt) ∙ ap is_some e) blocked
 
-      module _ (accepted : (k : ℕ) → k < length work.graph → is_refused (mark_at work book.ends k) ≡ false) where
-        made_one : (k : ℕ) → k < length work.graph → has_all (artefact_so_far work book.ends) (deps_at work.graph k) ≡ true → is_some (artefact_so_far work book.ends k) ≡ true
-        made_one k lt all = elim (or_cases (is_some (artefact_so_far work book.ends k)) (has_ended book.ends k) (is_over k lt all)) [
+      module _ (accepted : (k : ℕ) → k < length work.graph → is_refused (status_at work progress.ends k) ≡ false) where
+        made_one : (k : ℕ) → k < length work.graph → has_all (artefact_so_far work progress.ends) (deps_at work.graph k) ≡ true → is_some (artefact_so_far work progress.ends k) ≡ true
+        made_one k lt all = elim (or_cases (is_some (artefact_so_far work progress.ends k)) (has_ended progress.ends k) (is_over k lt all)) [
           | inl made ↦ made
           | inr has ↦
-              let exit = some_value (exit_at book.ends k) has in
+              let exit = some_value (exit_at progress.ends k) has in
               let parts = ended_is k exit.0 lt exit.1 in
-              let good : (exit.0.code == 0) ≡ true = refusal_marked accepted k exit.0 lt exit.1 in
+              let good : (exit.0.code == 0) ≡ true = refusal_has_status accepted k exit.0 lt exit.1 in
               let is : settle answer work.graph work.current k ≡ settled_by_exit exit.0 =
-              settle_is answer work book.ends ordered answers.ends is_over k lt
-              ∙ cond-true (has_all (artefact_so_far work book.ends) (deps_at work.graph k)) (settled_by (current_over answer work book.ends k) (exit_over answer work book.ends k)) settled.Blocked parts.0
+              settle_is answer work progress.ends ordered answers.ends is_over k lt
+              ∙ cond-true (has_all (artefact_so_far work progress.ends) (deps_at work.graph k)) (settled_by (current_over answer work progress.ends k) (exit_over answer work progress.ends k)) settled.Blocked parts.0
               ∙ ap₂ settled_by parts.1 parts.2 in
               ap is_some (built_is k ∙ ap settled_artefact (is ∙ cond-true (exit.0.code == 0) (settled.Compiled exit.0.output) (settled.Refused exit.0.code exit.0.output) good))
         ]
 
         -- where no file was refused all are made
-        pub made_all : (k : ℕ) → k < length work.graph → is_some (artefact_so_far work book.ends k) ≡ true
+        pub made_all : (k : ℕ) → k < length work.graph → is_some (artefact_so_far work progress.ends k) ≡ true
         made_all =
-            by_all_below (λ k. k < length work.graph → is_some (artefact_so_far work book.ends k) ≡ true)
+            by_all_below (λ k. k < length work.graph → is_some (artefact_so_far work progress.ends k) ≡ true)
             (λ k before lt. made_one k lt (all_from (deps_at work.graph k) (λ j d l. before (get_or (deps_at work.graph k) j d) (ordered k j d l) (omega (arith, ordered k j d l, lt)))))
           where
-            all_from : (deps : List ℕ) → All (λ dep. is_some (artefact_so_far work book.ends dep) ≡ true) deps → has_all (artefact_so_far work book.ends) deps ≡ true
-            all_from deps all = has_all_from (artefact_so_far work book.ends) deps all
+            all_from : (deps : List ℕ) → All (λ dep. is_some (artefact_so_far work progress.ends dep) ≡ true) deps → has_all (artefact_so_far work progress.ends) deps ≡ true
+            all_from deps all = has_all_from (artefact_so_far work progress.ends) deps all
 
         not_blocked : (k : ℕ) → k < length work.graph → settle answer work.graph work.current k ≡ settled.Blocked → work.keep_going ≡ true
         not_blocked k lt is = absurd (false≢true (sym (ap is_some (built_is k ∙ ap settled_artefact is)) ∙ made_all k lt))
 
 -- The laws of a build that ended by itself, and that no refusal halted.
 module _ (answer : Request → Exit) (work : Work) (graph : IsGraph work.graph) (events : List Event) (whole : IsWhole work events) (answered : Answered answer events) where
-  abbrev at_end : Book
-  at_end = book_of work events
+  abbrev at_end : BuildProgress
+  at_end = progress_of work events
 
   answers_end : AreAnswered answer work at_end
   answers_end = answers_of answer work (deps_before work.graph graph) events whole.lawful answered
 
   orderly_end : IsOrderly work false at_end
-  orderly_end = subst (λ (lost : Bool). IsOrderly work lost at_end) whole.none_lost (orderly_book answer work events whole.lawful answered)
+  orderly_end = subst (λ (lost : Bool). IsOrderly work lost at_end) whole.none_lost (orderly_progress answer work events whole.lawful answered)
 
   idle_end : at_end.runs ≡ []
   idle_end = no_runs at_end.runs whole.finished.idle
 
-  accepted_end : list_any is_refused (marks_of work events) ≡ false → (k : ℕ) → k < length work.graph → is_refused (mark_at work at_end.ends k) ≡ false
-  accepted_end none = none-below is_refused (mark_at work at_end.ends) (length work.graph) none
+  accepted_end : list_any is_refused (statuses_of work events) ≡ false → (k : ℕ) → k < length work.graph → is_refused (status_at work at_end.ends k) ≡ false
+  accepted_end none = none-below is_refused (status_at work at_end.ends) (length work.graph) none
 
   unhalted : NoRefusalHalts work events → at_end.halted ≡ false
   unhalted (inl keep) = never_halted answer work keep events whole.none_lost
@@ -311,11 +311,11 @@ module _ (answer : Request → Exit) (work : Work) (graph : IsGraph work.graph) 
     blocked_when (inl keep) k lt is = keep
     blocked_when (inr none) k lt is = not_blocked answer work graph at_end answers_end orderly_end idle_end (unhalted through) whole.finished.over (accepted_end none) k lt is
 
-    pub all_steady : marks_of work events ≡ steady_marks answer work.graph work.current
+    pub all_steady : statuses_of work events ≡ steady_statuses answer work.graph work.current
     all_steady =
-        map-below_same (mark_at work at_end.ends) (λ position. steady_mark (settle answer work.graph work.current position)) (length work.graph)
-        (λ k lt. mark_is answer work graph at_end answers_end orderly_end idle_end (unhalted through) whole.finished.over k lt (blocked_when through k lt))
+        map-below_same (status_at work at_end.ends) (λ position. steady_status (settle answer work.graph work.current position)) (length work.graph)
+        (λ k lt. status_is answer work graph at_end answers_end orderly_end idle_end (unhalted through) whole.finished.over k lt (blocked_when through k lt))
 
   -- where no file was refused, all files are made
-  pub all_files_made : list_any is_refused (marks_of work events) ≡ false → (position : ℕ) → position < length work.graph → is_some (artefact_after work events position) ≡ true
+  pub all_files_made : list_any is_refused (statuses_of work events) ≡ false → (position : ℕ) → position < length work.graph → is_some (artefact_after work events position) ≡ true
   all_files_made none = made_all answer work graph at_end answers_end orderly_end idle_end (unhalted (inr none)) whole.finished.over (accepted_end none)

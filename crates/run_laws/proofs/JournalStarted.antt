@@ -11,9 +11,9 @@ use Rattle.base.specs.declared.child.Exit.{Exit}
 use Rattle.base.specs.declared.child.Event.{Event}
 use Rattle.base.specs.declared.child.Event.TheVariants.{Started, Ended, Gone}
 use Rattle.run_spec.specs.Moves.{LawfulMoves}
-use Rattle.run_spec.specs.ChildJournal.{Work, Book, empty_book, artefact_so_far, next_position, request_at, after, after_all, book_of, Lawful, Answered, is_gone, moves_after}
+use Rattle.run_spec.specs.ChildJournal.{Work, BuildProgress, empty_progress, artefact_so_far, next_position, request_at, after, after_all, progress_of, Lawful, Answered, is_gone, moves_after}
 use Rattle.run_spec.proofs.Steps.{Steps, steps_of, now_parts}
-use Rattle.run_laws.proofs.JournalBooks.{startable_parts, next_parts}
+use Rattle.run_laws.proofs.JournalProgress.{startable_parts, next_parts}
 
 -- the file that a request is asked for
 pub asked_of : (ask : ℕ → Option Request) (next : Option ℕ) (request : Request) → option_and_then ask next ≡ Some request → (position : ℕ) × (next ≡ Some position) × (ask position ≡ Some request)
@@ -40,43 +40,43 @@ abbrev pub AreDistinct : List ℕ → Type 0
 AreDistinct positions = AllPairs (λ position other. position ≢ other) positions
 
 module _ (answer : Request → Exit) (setting : Work) where
-  distinct_start : (book : Book) → AreDistinct book.taken → (request : Request) (next : Option ℕ) → next_position setting book ≡ next → option_and_then (request_at setting book.ends) next ≡ Some request →
-      AreDistinct (book.taken ++ unwrap_or next 0 ∷ [])
-  distinct_start book distinct request None e asks = absurd (none-some request asks)
-  distinct_start book distinct request (Some position) e asks =
-      all_pairs_push (λ one other. one ≢ other) book.taken position distinct
-      (λ j d lt. unlike book.taken position (startable_parts setting book position (next_parts setting book position e).1).0 j d lt)
+  distinct_start : (progress : BuildProgress) → AreDistinct progress.taken → (request : Request) (next : Option ℕ) → next_position setting progress ≡ next → option_and_then (request_at setting progress.ends) next ≡ Some request →
+      AreDistinct (progress.taken ++ unwrap_or next 0 ∷ [])
+  distinct_start progress distinct request None e asks = absurd (none-some request asks)
+  distinct_start progress distinct request (Some position) e asks =
+      all_pairs_push (λ one other. one ≢ other) progress.taken position distinct
+      (λ j d lt. unlike progress.taken position (startable_parts setting progress position (next_parts setting progress position e).1).0 j d lt)
 
-  distinct_after : (book : Book) → AreDistinct book.taken → (events : List Event) → Steps answer setting book events → AreDistinct (after_all setting book events).taken
+  distinct_after : (progress : BuildProgress) → AreDistinct progress.taken → (events : List Event) → Steps answer setting progress events → AreDistinct (after_all setting progress events).taken
   unfolding after_all after Steps
-  distinct_after book distinct [] steps = distinct
-  distinct_after book distinct (Started ticket request ∷ events) steps =
-      distinct_after (after setting book (Started ticket request)) (distinct_start book distinct request (next_position setting book) refl steps.0.least) events steps.1
-  distinct_after book distinct (Ended ticket exit ∷ events) steps = distinct_after (after setting book (Ended ticket exit)) distinct events steps.1
-  distinct_after book distinct (Gone ticket ∷ events) steps = distinct_after (after setting book (Gone ticket)) distinct events steps
+  distinct_after progress distinct [] steps = distinct
+  distinct_after progress distinct (Started ticket request ∷ events) steps =
+      distinct_after (after setting progress (Started ticket request)) (distinct_start progress distinct request (next_position setting progress) refl steps.0.least) events steps.1
+  distinct_after progress distinct (Ended ticket exit ∷ events) steps = distinct_after (after setting progress (Ended ticket exit)) distinct events steps.1
+  distinct_after progress distinct (Gone ticket ∷ events) steps = distinct_after (after setting progress (Gone ticket)) distinct events steps
 
   -- no file is started twice
-  pub started_once : (events : List Event) → Lawful setting events → Answered answer events → AreDistinct (book_of setting events).taken
-  started_once events lawful answered = distinct_after empty_book (λ i j d a b. absurd (omega arith)) events (steps_of answer setting events lawful answered)
+  pub started_once : (events : List Event) → Lawful setting events → Answered answer events → AreDistinct (progress_of setting events).taken
+  started_once events lawful answered = distinct_after empty_progress (λ i j d a b. absurd (omega arith)) events (steps_of answer setting events lawful answered)
 
   -- a build that goes on after a refusal is never halted by one
-  on_after : setting.keep_going ≡ true → (book : Book) → book.halted ≡ false → (events : List Event) → list_any is_gone events ≡ false → (after_all setting book events).halted ≡ false
+  on_after : setting.keep_going ≡ true → (progress : BuildProgress) → progress.halted ≡ false → (events : List Event) → list_any is_gone events ≡ false → (after_all setting progress events).halted ≡ false
   unfolding after_all after
-  on_after keep book on [] none = on
-  on_after keep book on (Started ticket request ∷ events) none = on_after keep (after setting book (Started ticket request)) on events none
-  on_after keep book on (Ended ticket exit ∷ events) none = on_after keep (after setting book (Ended ticket exit)) (rw (on, keep) refl) events none
-  on_after keep book on (Gone ticket ∷ events) none = absurd (let nothing : ⊥ = cc in nothing)
+  on_after keep progress on [] none = on
+  on_after keep progress on (Started ticket request ∷ events) none = on_after keep (after setting progress (Started ticket request)) on events none
+  on_after keep progress on (Ended ticket exit ∷ events) none = on_after keep (after setting progress (Ended ticket exit)) (rw (on, keep) refl) events none
+  on_after keep progress on (Gone ticket ∷ events) none = absurd (let nothing : ⊥ = cc in nothing)
 
-  pub never_halted : setting.keep_going ≡ true → (events : List Event) → list_any is_gone events ≡ false → (book_of setting events).halted ≡ false
-  never_halted keep events none = on_after keep empty_book refl events none
+  pub never_halted : setting.keep_going ≡ true → (events : List Event) → list_any is_gone events ≡ false → (progress_of setting events).halted ≡ false
+  never_halted keep events none = on_after keep empty_progress refl events none
 
 -- where each file has an artefact before any child has ended, nothing happens
 pub nothing_due : (setting : Work) → ((position : ℕ) → position < length setting.graph → artefact_so_far setting [] position ≡ None → ⊥) → (events : List Event) → Lawful setting events → events ≡ []
 unfolding LawfulMoves moves_after
 nothing_due setting all [] lawful = refl
 nothing_due setting all (Started ticket request ∷ events) lawful =
-    let now = now_parts setting empty_book (unwrap_or (next_position setting empty_book) 0) lawful.moves.0 in
-    let next = next_parts setting empty_book (unwrap_or (next_position setting empty_book) 0) now.2 in
-    absurd (all (unwrap_or (next_position setting empty_book) 0) next.0 (startable_parts setting empty_book (unwrap_or (next_position setting empty_book) 0) next.1).1)
+    let now = now_parts setting empty_progress (unwrap_or (next_position setting empty_progress) 0) lawful.moves.0 in
+    let next = next_parts setting empty_progress (unwrap_or (next_position setting empty_progress) 0) now.2 in
+    absurd (all (unwrap_or (next_position setting empty_progress) 0) next.0 (startable_parts setting empty_progress (unwrap_or (next_position setting empty_progress) 0) next.1).1)
 nothing_due setting all (Ended ticket exit ∷ events) lawful = absurd (false≢true lawful.moves.0)
 nothing_due setting all (Gone ticket ∷ events) lawful = absurd (false≢true lawful.moves.0)

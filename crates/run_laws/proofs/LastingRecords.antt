@@ -14,9 +14,9 @@ use Rattle.outside.specs.Commits.{HasFirst, most_committed, last_state, CommitsF
 use Rattle.outside.specs.Phases.{IsCommitting, IsSettled, IsOpening, IsBase, HasPhases, unopened, opened, committed}
 use Rattle.outside.proofs.CommitLaws.{never_stays}
 use Rattle.outside.proofs.MomentLaws.{all_weaker, keeps_inside, keeps-append}
-use Rattle.run_spec.specs.ChildJournal.{Work, book_of}
+use Rattle.run_spec.specs.ChildJournal.{Work, progress_of}
 use Rattle.run_spec.specs.Commits.{commits}
-use Rattle.run_histories.specs.Histories.{Order, World, ProgramRun, IsReadable, IsBuildRun, work_over, latest_over}
+use Rattle.run_spec.specs.Histories.{Order, World, ProgramRun, IsReadable, IsBuildRun, work_over, latest_over}
 use Rattle.run_spec.proofs.LatestRecords.{latest_before_none, latest_last, none_of_take}
 use Rattle.run_laws.proofs.EndsOnce.{ended_once}
 use Rattle.run_laws.specs.Spares.{HasFile, HasFileAsked}
@@ -114,7 +114,7 @@ pub one_of_name : (world : World) (name : FileName) (kept : Record) (order : Ord
 one_of_name world name kept order run first build file =
     let setting : Work = work_over world.records_of order first in
     subst (λ (n : FileName). (list_any (is_of n) (commits setting run.events) ≡ false) ⊎ HasOne n (commits setting run.events)) file.is_name
-    (one_committed order.graph build.graph file.position file.entry file.is_entry (book_of setting run.events).ends (ended_once world.answer setting file.position run.events build.lawful build.answered))
+    (one_committed order.graph build.graph file.position file.entry file.is_entry (progress_of setting run.events).ends (ended_once world.answer setting file.position run.events build.lawful build.answered))
 
 module _ (world : World) (name : FileName) (kept : Record) (order : Order) (run : ProgramRun) (first : DiskState) (build : IsBuildRun world order run first) (file : HasFileAsked world order first name kept.asked) where
   abbrev records_of : Image → List Record

@@ -1,9 +1,9 @@
 -- The lemmas.
-pub mod CleanPlaces
+pub mod CleanRanks
 pub mod CleanSettled
 pub mod CleanViews
 pub mod TrueRecords
-pub mod JournalBooks
+pub mod JournalProgress
 pub mod JournalKeeps
 pub mod JournalStarted
 pub mod JournalAnswers

@@ -3,7 +3,7 @@ use Rattle.std.proofs.Common.{ℕ, List, [], ◌∷◌, ◌++◌, refl, sym, sub
 use Rattle.std.specs.List.{AllByRecursion}
 use Rattle.outside.specs.Disks.{DiskState, Image, IsImage, IsSideImage, EachImage, settled, settled_disk}
 use Rattle.outside.proofs.ImageLaws.{settled_disk_only}
-use Rattle.run_histories.specs.Histories.{IsReadable, IsLeft, IsMoment}
+use Rattle.run_spec.specs.Histories.{IsReadable, IsLeft, IsMoment}
 
 pub all_at : (Q : DiskState → Type 0) (before after : List DiskState) (state : DiskState) → AllByRecursion Q (before ++ state ∷ after) → Q state
 all_at Q [] after state all = all.0

@@ -20,7 +20,7 @@ use Rattle.run_spec.specs.ChildJournal.{Work, Lawful, Answered}
 use Rattle.run_spec.specs.CleanBuild.{RecordsClean}
 use Rattle.run_spec.specs.Commits.{commits}
 use Rattle.run_spec.specs.Faithful.{IsTrueRecord, IsFaithful, IsFaithfulDisk}
-use Rattle.run_histories.specs.Histories.{Sources, Order, World, ProgramRun, HistoryStep, Edited, Ran, Stopped, empty_image, IsReadable, IsBuildRun, IsIdleRun, RunStep, IsHistory, work_over, latest_over}
+use Rattle.run_spec.specs.Histories.{Sources, Order, World, ProgramRun, HistoryStep, Edited, Ran, Stopped, empty_image, IsReadable, IsBuildRun, IsIdleRun, RunStep, IsHistory, work_over, latest_over}
 use Rattle.run_spec.proofs.Prefixes.{lawful_prefix, lawful_none}
 use Rattle.run_laws.proofs.CleanCommits.{commits_true}
 use Rattle.run_laws.proofs.CleanSettled.{request_clean}

@@ -19,9 +19,9 @@ use Rattle.outside.specs.Commits.{last_state}
 use Rattle.outside.specs.Phases.{HasBaseAndPrefix}
 use Rattle.outside.proofs.MomentLaws.{all_last, all_weaker}
 use Rattle.outside.proofs.PhaseLaws.{phases_give}
-use Rattle.run_spec.specs.ChildJournal.{Work, Book, after_all, book_of, has_all, built_at, or_else, output_at, artefact_so_far}
+use Rattle.run_spec.specs.ChildJournal.{Work, BuildProgress, after_all, progress_of, has_all, built_at, or_else, output_at, artefact_so_far}
 use Rattle.run_spec.specs.Commits.{record_at, commits}
-use Rattle.run_histories.specs.Histories.{Sources, Order, World, ProgramRun, HistoryStep, Edited, Ran, Stopped, IsReadable, IsBuildRun, RunStep, IsHistory, work_over, latest_over}
+use Rattle.run_spec.specs.Histories.{Sources, Order, World, ProgramRun, HistoryStep, Edited, Ran, Stopped, IsReadable, IsBuildRun, RunStep, IsHistory, work_over, latest_over}
 use Rattle.run_spec.proofs.LatestRecords.{latest_before_none, none_of_prefix}
 use Rattle.run_spec.specs.Settled.{Settled, Blocked, settled_artefact, settled_by, request_over, next_settled, settle, artefact_settled, is_asked, request_unless}
 use Rattle.run_spec.proofs.Artefacts.{deps_before, artefact_free}
@@ -30,7 +30,7 @@ use Rattle.run_spec.proofs.RecordedArtefacts.{current_of_record}
 use Rattle.run_spec.proofs.RecordNames.{asked_is}
 use Rattle.run_spec.proofs.BuiltLists.{built_same}
 use Rattle.run_laws.proofs.EndsOnce.{no_end}
-use Rattle.run_laws.proofs.JournalKeeps.{was_taken, orderly_book, list_all-from_All}
+use Rattle.run_laws.proofs.JournalKeeps.{was_taken, orderly_progress, list_all-from_All}
 use Rattle.run_laws.proofs.JournalStarted.{held, nothing_due}
 use Rattle.run_laws.proofs.JournalSettled.{started_stale}
 use Rattle.run_laws.proofs.TrueRecords.{latest-latest_alone}
@@ -52,7 +52,7 @@ unheld taken k none =
     ]
 
 -- nothing is taken before the first event
-pub nothing_taken : (setting : Work) (k : ℕ) → Contains (book_of setting []).taken k → ⊥
+pub nothing_taken : (setting : Work) (k : ℕ) → Contains (progress_of setting []).taken k → ⊥
 unfolding after_all
 nothing_taken setting k contains = absurd (omega (arith, contains.1))
 
@@ -108,7 +108,7 @@ module _ (world : World) (name : FileName) (kept : Record) where
     setting = work_over world.records_of order first
 
     -- a file of which is asked what its record has isn't started
-    pub unstarted : latest_over world.records_of order.clean first name ≡ Some kept → (asked : HasFileAsked world order first name kept.asked) → Contains (book_of setting run.events).taken asked.file.position → ⊥
+    pub unstarted : latest_over world.records_of order.clean first name ≡ Some kept → (asked : HasFileAsked world order first name kept.asked) → Contains (progress_of setting run.events).taken asked.file.position → ⊥
     unstarted knows asked contains =
         let file : HasFile order name = asked.file in
         let built : List BuiltFile = built_at order.graph (settled_over world order first) (deps_at order.graph file.position) in
@@ -122,10 +122,10 @@ module _ (world : World) (name : FileName) (kept : Record) where
     pub uncommitted : latest_over world.records_of order.clean first name ≡ Some kept → HasFileAsked world order first name kept.asked → list_any (is_of name) (commits setting run.events) ≡ false
     uncommitted knows asked =
         let file : HasFile order name = asked.file in
-        let book : Book = book_of setting run.events in
-        let fresh : was_taken book file.position ≡ false = unheld book.taken file.position (unstarted knows asked) in
+        let progress : BuildProgress = progress_of setting run.events in
+        let fresh : was_taken progress file.position ≡ false = unheld progress.taken file.position (unstarted knows asked) in
         subst (λ (n : FileName). list_any (is_of n) (commits setting run.events) ≡ false) file.is_name
-        (none_committed order.graph build.graph file.position file.entry file.is_entry book.ends (no_end book file.position fresh book.ends (orderly_book world.answer setting run.events build.lawful build.answered).ends))
+        (none_committed order.graph build.graph file.position file.entry file.is_entry progress.ends (no_end progress file.position fresh progress.ends (orderly_progress world.answer setting run.events build.lawful build.answered).ends))
 
     -- where nothing is committed of its name, an acknowledged record stays so
     image_keeps : (more : List Record) → list_any (is_of name) more ≡ false → IsAcknowledged world name kept first → (image : Image) → HasBaseAndPrefix world.records_of order.clean more first image → latest name (world.records_of image) ≡ Some kept
@@ -147,7 +147,7 @@ module _ (world : World) (name : FileName) (kept : Record) where
   run_spares : (order : Option Order) (run : ProgramRun) (first : DiskState) → IsReadable first → IsAcknowledged world name kept first → RunStep world order run first → SparesFile world order name kept.asked run first
   run_spares None run first readable here step = tt
   run_spares (Some order) run first readable here (inl idle) = λ over file contains.
-      nothing_taken (work_over world.records_of order first) file.file.position (subst (λ (events : List Event). Contains (book_of (work_over world.records_of order first) events).taken file.file.position) idle.events contains)
+      nothing_taken (work_over world.records_of order first) file.file.position (subst (λ (events : List Event). Contains (progress_of (work_over world.records_of order first) events).taken file.file.position) idle.events contains)
   run_spares (Some order) run first readable here (inr build) = λ over file. unstarted order run first build over (known order first readable over here) file
 
   run_leaves : (order : Option Order) (run : ProgramRun) (first : DiskState) → IsReadable first → IsAcknowledged world name kept first → RunStep world order run first → LeavesRecord world order name kept run first →

@@ -18,7 +18,7 @@ use Rattle.outside.specs.Commits.{HasFirst, most_committed, last_state}
 use Rattle.outside.specs.Phases.{IsCommitting, HasPhases, unopened, opened, committed}
 use Rattle.run_spec.specs.ChildJournal.{Work}
 use Rattle.run_spec.specs.Commits.{commits, ComesAfterCommits, Waits}
-use Rattle.run_histories.specs.Histories.{Sources, Order, World, ProgramRun, Stop, HistoryStep, Stopped, IsReadable, IsMoment, IsBuildRun, RunStep, IsHistory, work_over}
+use Rattle.run_spec.specs.Histories.{Sources, Order, World, ProgramRun, Stop, HistoryStep, Stopped, IsReadable, IsMoment, IsBuildRun, RunStep, IsHistory, work_over}
 use Rattle.run_spec.proofs.Prefixes.{each_at, commits_prefix}
 use Rattle.run_spec.proofs.LatestRecords.{latest_last, none_of_take}
 use Rattle.base.specs.Names.{is_same_name}

@@ -19,7 +19,7 @@ use Rattle.run_spec.specs.Faithful.{IsTrueRecord}
 use Rattle.run_spec.specs.Recorded.{current_by_request}
 use Rattle.run_spec.proofs.SameAsked.{same_names}
 use Rattle.run_spec.proofs.RecordedArtefacts.{record_of_current}
-use Rattle.run_laws.proofs.CleanPlaces.{clean_at}
+use Rattle.run_laws.proofs.CleanRanks.{clean_at}
 
 -- what a compiler that answers so makes of a file
 made_by : (entry : Entry) (exit : Exit) (artefact : List ℕ) → exit.code ≡ 0 → exit.output ≡ artefact → result_of entry exit ≡ Made (record { name = entry.name; artefact = artefact })

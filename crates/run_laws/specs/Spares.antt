@@ -6,10 +6,10 @@ use Rattle.base.specs.declared.graph.Entry.{Entry}
 use Rattle.outside.specs.Disks.{DiskState, EachImage}
 use Rattle.outside.specs.Records.{Asked, Record, asked_of, deps_at, is_of, latest}
 use Rattle.outside.specs.Commits.{last_state}
-use Rattle.run_spec.specs.ChildJournal.{book_of, built_at, has_all}
+use Rattle.run_spec.specs.ChildJournal.{progress_of, built_at, has_all}
 use Rattle.run_spec.specs.Settled.{artefact_settled}
 use Rattle.run_spec.specs.Commits.{commits}
-use Rattle.run_histories.specs.Histories.{Sources, Order, World, ProgramRun, HistoryStep, Edited, Ran, Stopped, work_over}
+use Rattle.run_spec.specs.Histories.{Sources, Order, World, ProgramRun, HistoryStep, Edited, Ran, Stopped, work_over}
 
 -- a record is acknowledged: whatever a stop can leave has it as the latest of its name
 abbrev pub IsAcknowledged : World → FileName → Record → DiskState → Type 0
@@ -36,7 +36,7 @@ pub record HasFileAsked (world : World) (order : Order) (first : DiskState) (nam
 abbrev pub SparesFile : World → Option Order → FileName → Asked → ProgramRun → DiskState → Type 0
 SparesFile world None name asked run first = Unit {0}
 SparesFile world (Some order) name asked run first =
-    order.clean ≡ false → (file : HasFileAsked world order first name asked) → Contains (book_of (work_over world.records_of order first) run.events).taken file.file.position → ⊥
+    order.clean ≡ false → (file : HasFileAsked world order first name asked) → Contains (progress_of (work_over world.records_of order first) run.events).taken file.file.position → ⊥
 
 -- A run after which the record still counts: the store isn't emptied, and what the record has is asked of the file, or the run
 -- commits no record of its name.

@@ -14,7 +14,7 @@ ghost use Rattle.outside.specs.Phases.{IsCommitting};
 ghost use Rattle.run_spec.specs.ChildJournal.{built_at};
 ghost use Rattle.run_spec.specs.Commits.{record_at, commits};
 ghost use Rattle.run_spec.specs.Faithful.{IsFaithfulDisk};
-ghost use Rattle.run_histories.specs.Histories.{World, Sources, Order, ProgramRun, Stop, HistoryStep, Stopped, IsHistory, RunStep, IsBuildRun, IsReadable, IsMoment, IsLeft, empty_image, work_over};
+ghost use Rattle.run_spec.specs.Histories.{World, Sources, Order, ProgramRun, Stop, HistoryStep, Stopped, IsHistory, RunStep, IsBuildRun, IsReadable, IsMoment, IsLeft, empty_image, work_over};
 ghost use Rattle.run_laws.specs.Rights.{AllRight};
 ghost use Rattle.run_laws.specs.Spares.{IsAcknowledged, HasFile, HasFileAsked, AllSpare};
 

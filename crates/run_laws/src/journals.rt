@@ -8,14 +8,14 @@ ghost use Rattle.base.specs.declared.child.Exit.{Exit};
 ghost use Rattle.base.specs.declared.child.Event.{Event};
 ghost use Rattle.base.specs.declared.child.Event.TheVariants.{Started};
 ghost use Rattle.base.specs.Graphs.{IsGraph};
-ghost use Rattle.run_spec.specs.ChildJournal.{Work, Lawful, Answered, IsWhole, artefact_after, artefact_so_far, book_of, next_position};
+ghost use Rattle.run_spec.specs.ChildJournal.{Work, Lawful, Answered, IsWhole, artefact_after, artefact_so_far, progress_of, next_position};
 ghost use Rattle.run_spec.specs.Commits.{commits};
 ghost use Rattle.run_spec.specs.Faithful.{IsTrueRecord};
 ghost use Rattle.run_spec.specs.JournalParts.{compile_part, test_part};
 ghost use Rattle.base.specs.Jobs.{compile_request};
 ghost use Rattle.run_spec.specs.CleanBuild.{Made, built_below, is_free, clean_build, clean_request, RecordsClean};
 ghost use Rattle.run_spec.specs.Settled.{Blocked, settle, settled_by, artefact_settled, request_unless};
-ghost use Rattle.run_spec.specs.Marks.{marks_of, steady_marks, is_refused, NoRefusalHalts};
+ghost use Rattle.run_spec.specs.Statuses.{statuses_of, steady_statuses, is_refused, NoRefusalHalts};
 
 /// What lawful journals of builds ask for and make, by what the settled build does; and where what is recorded is what a
 /// clean build makes, by that.
@@ -44,17 +44,17 @@ pub fn laws_of_journals()
         Lawful setting (before ++ Started ticket request ∷ rest) →
         Answered answer (before ++ Started ticket request ∷ rest) →
         (position : ℕ)
-        × (next_position setting (book_of setting before) ≡ Some position)
+        × (next_position setting (progress_of setting before) ≡ Some position)
         × (request_unless answer setting.graph setting.current position ≡ Some request) }
     // so that it asks for each file that was started,
     ensures stale { (answer : Request → Exit) (setting : Work) → IsGraph setting.graph →
         (events : List Event) → Lawful setting events → Answered answer events →
-        (position : ℕ) → Contains (book_of setting events).taken position → (request : Request)
+        (position : ℕ) → Contains (progress_of setting events).taken position → (request : Request)
         × (request_unless answer setting.graph setting.current position ≡ Some request) }
     // and no file is started twice.
     ensures once { (answer : Request → Exit) (setting : Work)
         (events : List Event) → Lawful setting events → Answered answer events →
-        AllPairs (λ position other. position ≢ other) (book_of setting events).taken }
+        AllPairs (λ position other. position ≢ other) (progress_of setting events).taken }
     // Whatever a build has by now of a file is what the settled build makes of it.
     ensures made { (answer : Request → Exit) (setting : Work) → IsGraph setting.graph →
         (events : List Event) → Lawful setting events → Answered answer events →
@@ -105,7 +105,7 @@ pub fn laws_of_whole_builds()
     ensures started { (answer : Request → Exit) (setting : Work) → IsGraph setting.graph →
         (events : List Event) → IsWhole setting events → Answered answer events →
         NoRefusalHalts setting events → (position : ℕ) →
-        Contains (book_of setting events).taken position ↔ ((request : Request)
+        Contains (progress_of setting events).taken position ↔ ((request : Request)
         × (request_unless answer setting.graph setting.current position ≡ Some request)) }
     // the files that are made are those that the settled build makes, with their artefacts,
     ensures built { (answer : Request → Exit) (setting : Work) → IsGraph setting.graph →
@@ -113,15 +113,15 @@ pub fn laws_of_whole_builds()
         NoRefusalHalts setting events → (position : ℕ) →
         artefact_after setting events position
         ≡ artefact_settled answer setting.graph setting.current position }
-    // and its marks are those that the settled build says.
+    // and its statuses are those that the settled build says.
     ensures steady { (answer : Request → Exit) (setting : Work) → IsGraph setting.graph →
         (events : List Event) → IsWhole setting events → Answered answer events →
         NoRefusalHalts setting events →
-        marks_of setting events ≡ steady_marks answer setting.graph setting.current }
+        statuses_of setting events ≡ steady_statuses answer setting.graph setting.current }
     // Where no file was refused, all files are made.
     ensures all_made { (answer : Request → Exit) (setting : Work) → IsGraph setting.graph →
         (events : List Event) → IsWhole setting events → Answered answer events →
-        list_any is_refused (marks_of setting events) ≡ false →
+        list_any is_refused (statuses_of setting events) ≡ false →
         (position : ℕ) → position < length setting.graph →
         is_some (artefact_after setting events position) ≡ true }
 {}

@@ -10,7 +10,7 @@ use Rattle.base.specs.Graphs.{IsGraph, IsEntryAt}
 use Rattle.outside.specs.Records.{deps_at}
 use Rattle.run_spec.specs.Folds.{upto}
 use Rattle.run_spec.specs.Moves.{EndedChild, IsStepwise}
-use Rattle.run_spec.specs.ChildJournal.{Work, End, child_of_end, artefact_so_far, output_at, or_else, has_all, built_at, next_artefact, artefact_by, job_of}
+use Rattle.run_spec.specs.ChildJournal.{Work, End, child_of_end, artefact_so_far, output_at, or_else, has_all, built_at, next_artefact, artefact_by, workload_of}
 use Rattle.run_spec.proofs.Journal.{output_at-push_other}
 use Rattle.run_spec.proofs.FoldLaws.{upto_both, upto_at, upto_longer, upto_past}
 use Rattle.run_spec.proofs.BuiltLists.{Keeps, has_all_more, built_more, has_all_same, built_same}
@@ -142,7 +142,7 @@ module _ (work : Work) (ordered : (position : ℕ) → All (λ dep. dep < positi
       ∙ ap (λ o. is_some o || (end.position == at && end.ok)) (sym (artefact_free ended at lt all))
 
   -- so what a build makes follows step by step
-  pub stepwise_ordered : IsStepwise (job_of work)
+  pub stepwise_ordered : IsStepwise (workload_of work)
   unfolding has_all
   stepwise_ordered = record {
     before = λ position lt. ordered position;
@@ -164,5 +164,5 @@ so_far_below work is ends end position lt =
     ∙ sym (same_below work (deps_before work.graph is) (map child_of_end ends) (map child_of_end ends ++ child_of_end end ∷ []) end.position
     (λ k low. output_other (map child_of_end ends) (child_of_end end) k (λ e. omega (arith, e, low))) position lt)
 
-pub stepwise : (work : Work) → IsGraph work.graph → IsStepwise (job_of work)
+pub stepwise : (work : Work) → IsGraph work.graph → IsStepwise (workload_of work)
 stepwise work is = stepwise_ordered work (deps_before work.graph is)

@@ -10,10 +10,10 @@ use Rattle.base.specs.declared.child.Exit.{Exit}
 use Rattle.base.specs.declared.child.Event.{Event}
 use Rattle.base.specs.declared.child.Event.TheVariants.{Started, Ended, Gone}
 use Rattle.outside.specs.Records.{deps_at}
-use Rattle.run_spec.specs.Moves.{Job, RunningChild, EndedChild, Core, Move, is_made_so_far, is_startable, position_of, without_child, ended_child, after_move, after_moves, LawfulMoves, GreedyMoves}
-use Rattle.run_spec.specs.ChildJournal.{Work, Run, End, Book, exit_at, output_at, artefact_so_far, job_of, child_of_run, child_of_end, core_of, run_of, others_of, end_of, after, after_all, move_of, moves_after, AreRequested, EachAfter, HoldsAnswer, Answered, since, starts_of}
+use Rattle.run_spec.specs.Moves.{Workload, RunningChild, EndedChild, SchedulerState, Move, is_made_so_far, is_startable, position_of, without_child, ended_child, after_move, after_moves, LawfulMoves, GreedyMoves}
+use Rattle.run_spec.specs.ChildJournal.{Work, Run, End, BuildProgress, exit_at, output_at, artefact_so_far, workload_of, child_of_run, child_of_end, schedule_of, run_of, others_of, end_of, after, after_all, move_of, moves_after, AreRequested, EachAfter, HoldsAnswer, Answered, since, starts_of}
 
-pub after_all-append : (s : Work) (b : Book) (xs ys : List Event) → after_all s b (xs ++ ys) ≡ after_all s (after_all s b xs) ys
+pub after_all-append : (s : Work) (b : BuildProgress) (xs ys : List Event) → after_all s b (xs ++ ys) ≡ after_all s (after_all s b xs) ys
 unfolding after_all
 after_all-append s b [] ys = refl
 after_all-append s b (x ∷ xs) ys = after_all-append s (after s b x) xs ys
@@ -36,45 +36,45 @@ ended_is ticket (run ∷ runs) exit =
     ]
 
 -- what has happened after an event is what has happened after its move
-pub core_after : (s : Work) (b : Book) (event : Event) → core_of (after s b event) ≡ after_move (job_of s) (core_of b) (move_of s b event)
+pub schedule_after : (s : Work) (b : BuildProgress) (event : Event) → schedule_of (after s b event) ≡ after_move (workload_of s) (schedule_of b) (move_of s b event)
 unfolding after after_move
-core_after s b (Started t r) = rw map_push refl
-core_after s b (Ended t e) = rw (running_without t b.runs, map-append child_of_end b.ends (end_of (run_of t b.runs) e), ended_is t b.runs e) refl
-core_after s b (Gone t) = rw (running_without t b.runs) refl
+schedule_after s b (Started t r) = rw map_push refl
+schedule_after s b (Ended t e) = rw (running_without t b.runs, map-append child_of_end b.ends (end_of (run_of t b.runs) e), ended_is t b.runs e) refl
+schedule_after s b (Gone t) = rw (running_without t b.runs) refl
 
-pub core_after_all : (s : Work) (b : Book) (xs : List Event) → core_of (after_all s b xs) ≡ after_moves (job_of s) (core_of b) (moves_after s b xs)
+pub schedule_after_all : (s : Work) (b : BuildProgress) (xs : List Event) → schedule_of (after_all s b xs) ≡ after_moves (workload_of s) (schedule_of b) (moves_after s b xs)
 unfolding after_all after_moves moves_after
-core_after_all s b [] = refl
-core_after_all s b (x ∷ xs) = core_after_all s (after s b x) xs ∙ ap (λ (core : Core). after_moves (job_of s) core (moves_after s (after s b x) xs)) (core_after s b x)
+schedule_after_all s b [] = refl
+schedule_after_all s b (x ∷ xs) = schedule_after_all s (after s b x) xs ∙ ap (λ (schedule : SchedulerState). after_moves (workload_of s) schedule (moves_after s (after s b x) xs)) (schedule_after s b x)
 
 -- a file is made where it has an artefact
-pub made_so_far : (s : Work) (b : Book) (k : ℕ) → is_made_so_far (job_of s) (core_of b) k ≡ is_some (artefact_so_far s b.ends k)
+pub made_so_far : (s : Work) (b : BuildProgress) (k : ℕ) → is_made_so_far (workload_of s) (schedule_of b) k ≡ is_some (artefact_so_far s b.ends k)
 made_so_far s b k = refl
 
 -- a file may be started where it wasn't, has no artefact, and all that it depends on has one
-pub startable_is : (s : Work) (b : Book) (k : ℕ) →
-    is_startable (job_of s) (core_of b) k ≡
+pub startable_is : (s : Work) (b : BuildProgress) (k : ℕ) →
+    is_startable (workload_of s) (schedule_of b) k ≡
     (not (list_any (λ other. eqb other k) b.taken) && is_none (artefact_so_far s b.ends k) && list_all (λ dep. is_some (artefact_so_far s b.ends dep)) (deps_at s.graph k))
 unfolding is_startable
 startable_is s b k = refl
 
 -- two parts
-pub moves-append : (s : Work) (b : Book) (xs ys : List Event) → moves_after s b (xs ++ ys) ≡ moves_after s b xs ++ moves_after s (after_all s b xs) ys
+pub moves-append : (s : Work) (b : BuildProgress) (xs ys : List Event) → moves_after s b (xs ++ ys) ≡ moves_after s b xs ++ moves_after s (after_all s b xs) ys
 unfolding after_all moves_after
 moves-append s b [] ys = refl
 moves-append s b (x ∷ xs) ys = ap (λ (moves : List Move). move_of s b x ∷ moves) (moves-append s (after s b x) xs ys)
 
-pub LawfulMoves-append : (job : Job) (core : Core) (xs ys : List Move) → LawfulMoves job core xs → LawfulMoves job (after_moves job core xs) ys → LawfulMoves job core (xs ++ ys)
+pub LawfulMoves-append : (workload : Workload) (schedule : SchedulerState) (xs ys : List Move) → LawfulMoves workload schedule xs → LawfulMoves workload (after_moves workload schedule xs) ys → LawfulMoves workload schedule (xs ++ ys)
 unfolding LawfulMoves after_moves
-LawfulMoves-append job core [] ys h k = k
-LawfulMoves-append job core (x ∷ xs) ys h k = (h.0, LawfulMoves-append job (after_move job core x) xs ys h.1 k)
+LawfulMoves-append workload schedule [] ys h k = k
+LawfulMoves-append workload schedule (x ∷ xs) ys h k = (h.0, LawfulMoves-append workload (after_move workload schedule x) xs ys h.1 k)
 
-pub GreedyMoves-append : (job : Job) (core : Core) (xs ys : List Move) → GreedyMoves job core xs → GreedyMoves job (after_moves job core xs) ys → GreedyMoves job core (xs ++ ys)
+pub GreedyMoves-append : (workload : Workload) (schedule : SchedulerState) (xs ys : List Move) → GreedyMoves workload schedule xs → GreedyMoves workload (after_moves workload schedule xs) ys → GreedyMoves workload schedule (xs ++ ys)
 unfolding GreedyMoves after_moves
-GreedyMoves-append job core [] ys h k = k
-GreedyMoves-append job core (x ∷ xs) ys h k = (h.0, GreedyMoves-append job (after_move job core x) xs ys h.1 k)
+GreedyMoves-append workload schedule [] ys h k = k
+GreedyMoves-append workload schedule (x ∷ xs) ys h k = (h.0, GreedyMoves-append workload (after_move workload schedule x) xs ys h.1 k)
 
-pub AreRequested-append : (s : Work) (b : Book) (xs ys : List Event) → AreRequested s b xs → AreRequested s (after_all s b xs) ys → AreRequested s b (xs ++ ys)
+pub AreRequested-append : (s : Work) (b : BuildProgress) (xs ys : List Event) → AreRequested s b xs → AreRequested s (after_all s b xs) ys → AreRequested s b (xs ++ ys)
 unfolding AreRequested after_all
 AreRequested-append s b [] ys h k = k
 AreRequested-append s b (x ∷ xs) ys h k = (h.0, AreRequested-append s (after s b x) xs ys h.1 k)

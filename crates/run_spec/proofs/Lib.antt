@@ -1,5 +1,5 @@
 -- The lemmas.
-pub mod Places
+pub mod Ranks
 pub mod FoldLaws
 pub mod BuiltLists
 pub mod Artefacts
@@ -13,3 +13,11 @@ pub mod Prefixes
 pub mod Waiting
 pub mod RecordNames
 pub mod LatestRecords
+pub mod RunSteps
+pub mod ChildLists
+pub mod PlainSteps
+pub mod Halting
+pub mod CountsAtFirst
+pub mod InLine
+pub mod InOrder
+pub mod TestSteps

@@ -11,19 +11,19 @@ use Rattle.base.specs.declared.child.Event.TheVariants.{Started, Ended, Gone}
 use Rattle.base.specs.Jobs.{compile_request}
 use Rattle.outside.specs.Children.{started_with}
 use Rattle.run_spec.specs.Moves.{first_from, next_start, is_startable, LawfulMoves}
-use Rattle.run_spec.specs.ChildJournal.{Work, End, Book, empty_book, artefact_so_far, built_at, job_of, core_of, next_position, request_at, after, moves_after, AreRequested, Lawful}
+use Rattle.run_spec.specs.ChildJournal.{Work, End, BuildProgress, empty_progress, artefact_so_far, built_at, workload_of, schedule_of, next_position, request_at, after, moves_after, AreRequested, Lawful}
 use Rattle.run_spec.specs.JournalParts.{is_test, is_test_event, compile_part, test_part}
 
 -- without a file nothing can be started
-no_start : (s : Work) (b : Book) → s.graph ≡ [] → next_position s b ≡ None
+no_start : (s : Work) (b : BuildProgress) → s.graph ≡ [] → next_position s b ≡ None
 unfolding next_start first_from
-no_start s b e = ap (λ (graph : List Entry). first_from (is_startable (job_of s) (core_of b)) 0 (length graph)) e
+no_start s b e = ap (λ (graph : List Entry). first_from (is_startable (workload_of s) (schedule_of b)) 0 (length graph)) e
 
 -- so nothing happens
 pub no_event : (s : Work) (events : List Event) → s.graph ≡ [] → Lawful s events → events ≡ []
 unfolding LawfulMoves moves_after AreRequested
 no_event s [] e lawful = refl
-no_event s (Started t r ∷ events) e lawful = absurd (none-some r (sym (ap (option_and_then (request_at s [])) (no_start s empty_book e)) ∙ lawful.requests.0))
+no_event s (Started t r ∷ events) e lawful = absurd (none-some r (sym (ap (option_and_then (request_at s [])) (no_start s empty_progress e)) ∙ lawful.requests.0))
 no_event s (Ended t x ∷ events) e lawful = absurd (false≢true lawful.moves.0)
 no_event s (Gone t ∷ events) e lawful = absurd (false≢true lawful.moves.0)
 
@@ -38,7 +38,7 @@ unfolding request_at
 plain s ends None r h = absurd (none-some r h)
 plain s ends (Some position) r h = plain_from s ends (slice_get s.graph position) r h
 
-no_test : (s : Work) (b : Book) (events : List Event) → AreRequested s b events → (ticket : ℕ) → is_test (started_with ticket events) ≡ false
+no_test : (s : Work) (b : BuildProgress) (events : List Event) → AreRequested s b events → (ticket : ℕ) → is_test (started_with ticket events) ≡ false
 unfolding AreRequested
 no_test s b [] requested ticket = refl
 no_test s b (Started t r ∷ events) requested ticket =
@@ -58,7 +58,7 @@ module _ (journal : List Event) where
     cond-false (is_test_event journal event) _ _ plain ∙ rest.1,
   )
 
-  parts_from : ((ticket : ℕ) → is_test (started_with ticket journal) ≡ false) → (s : Work) (b : Book) (events : List Event) → AreRequested s b events →
+  parts_from : ((ticket : ℕ) → is_test (started_with ticket journal) ≡ false) → (s : Work) (b : BuildProgress) (events : List Event) → AreRequested s b events →
       (filter (λ event. not (is_test_event journal event)) events ≡ events) × (filter (is_test_event journal) events ≡ [])
   unfolding AreRequested
   parts_from none s b [] requested = (refl, refl)
@@ -68,7 +68,7 @@ module _ (journal : List Event) where
 
 -- all events of a build are compilers', and none is a test's
 pub build_parts : (s : Work) (events : List Event) → Lawful s events → (compile_part events ≡ events) × (test_part events ≡ [])
-build_parts s events lawful = parts_from events (no_test s empty_book events lawful.requests) s empty_book events lawful.requests
+build_parts s events lawful = parts_from events (no_test s empty_progress events lawful.requests) s empty_progress events lawful.requests
 
 -- where no event is a test's all are compilers'
 filter_rest : {X : Type 0} (test : X → Bool) (xs : List X) → filter test xs ≡ [] → filter (λ x. not (test x)) xs ≡ xs

@@ -7,17 +7,17 @@ use Rattle.base.specs.declared.child.Exit.{Exit}
 use Rattle.base.specs.declared.child.Event.{Event}
 use Rattle.base.specs.declared.child.Event.TheVariants.{Started, Ended, Gone}
 use Rattle.outside.specs.Records.{Record}
-use Rattle.run_spec.specs.Moves.{Core, empty_core, after_move, LawfulMoves}
-use Rattle.run_spec.specs.ChildJournal.{Work, End, Book, empty_book, job_of, run_of, end_of, after, after_all, book_of, move_of, moves_after, IsRequested, AreRequested, EachAfter, HasFreshTicket, HoldsAnswer, Answered, Lawful}
+use Rattle.run_spec.specs.Moves.{SchedulerState, empty_schedule, after_move, LawfulMoves}
+use Rattle.run_spec.specs.ChildJournal.{Work, End, BuildProgress, empty_progress, workload_of, run_of, end_of, after, after_all, progress_of, move_of, moves_after, IsRequested, AreRequested, EachAfter, HasFreshTicket, HoldsAnswer, Answered, Lawful}
 use Rattle.run_spec.specs.Commits.{commit_of, commits_of, commits}
 use Rattle.run_spec.proofs.Journal.{after_all-append}
 
-lawful_moves_prefix : (s : Work) (b : Book) (core : Core) (xs ys : List Event) → LawfulMoves (job_of s) core (moves_after s b (xs ++ ys)) → LawfulMoves (job_of s) core (moves_after s b xs)
+lawful_moves_prefix : (s : Work) (b : BuildProgress) (schedule : SchedulerState) (xs ys : List Event) → LawfulMoves (workload_of s) schedule (moves_after s b (xs ++ ys)) → LawfulMoves (workload_of s) schedule (moves_after s b xs)
 unfolding LawfulMoves moves_after
-lawful_moves_prefix s b core [] ys h = tt
-lawful_moves_prefix s b core (x ∷ xs) ys h = (h.0, lawful_moves_prefix s (after s b x) (after_move (job_of s) core (move_of s b x)) xs ys h.1)
+lawful_moves_prefix s b schedule [] ys h = tt
+lawful_moves_prefix s b schedule (x ∷ xs) ys h = (h.0, lawful_moves_prefix s (after s b x) (after_move (workload_of s) schedule (move_of s b x)) xs ys h.1)
 
-requested_prefix : (s : Work) (b : Book) (xs ys : List Event) → AreRequested s b (xs ++ ys) → AreRequested s b xs
+requested_prefix : (s : Work) (b : BuildProgress) (xs ys : List Event) → AreRequested s b (xs ++ ys) → AreRequested s b xs
 unfolding AreRequested
 requested_prefix s b [] ys h = tt
 requested_prefix s b (x ∷ xs) ys h = (h.0, requested_prefix s (after s b x) xs ys h.1)
@@ -30,8 +30,8 @@ each_prefix P before (x ∷ xs) ys h = (h.0, each_prefix P (before ++ x ∷ []) 
 -- a prefix of a lawful journal is lawful
 pub lawful_prefix : (s : Work) (xs ys : List Event) → Lawful s (xs ++ ys) → Lawful s xs
 lawful_prefix s xs ys lawful = record {
-  moves = lawful_moves_prefix s empty_book empty_core xs ys lawful.moves;
-  requests = requested_prefix s empty_book xs ys lawful.requests;
+  moves = lawful_moves_prefix s empty_progress empty_schedule xs ys lawful.moves;
+  requests = requested_prefix s empty_progress xs ys lawful.requests;
   tickets = each_prefix HasFreshTicket [] xs ys lawful.tickets;
 }
 
@@ -40,7 +40,7 @@ pub answered_prefix : (answer : Request → Exit) (xs ys : List Event) → Answe
 answered_prefix answer xs ys answered = each_prefix (HoldsAnswer answer) [] xs ys answered
 
 -- each start asks for its file what is to be asked after the events before it
-pub requested_at : (s : Work) (b : Book) (xs : List Event) (y : Event) (ys : List Event) → AreRequested s b (xs ++ y ∷ ys) → IsRequested s (after_all s b xs) y
+pub requested_at : (s : Work) (b : BuildProgress) (xs : List Event) (y : Event) (ys : List Event) → AreRequested s b (xs ++ y ∷ ys) → IsRequested s (after_all s b xs) y
 unfolding AreRequested after_all
 requested_at s b [] y ys h = h.0
 requested_at s b (x ∷ xs) y ys h = requested_at s (after s b x) xs y ys h.1
@@ -57,7 +57,7 @@ each_at P before [] y ys h = subst (λ (l : List Event). P l y) (sym (append-nil
 each_at P before (x ∷ xs) y ys h = subst (λ (l : List Event). P l y) (append_assoc before (x ∷ []) xs) (each_at P (before ++ x ∷ []) xs y ys h.1)
 
 -- ends are never taken back
-ends_more : (s : Work) (b : Book) (events : List Event) → (more : List End) × ((after_all s b events).ends ≡ b.ends ++ more)
+ends_more : (s : Work) (b : BuildProgress) (events : List Event) → (more : List End) × ((after_all s b events).ends ≡ b.ends ++ more)
 unfolding after_all after
 ends_more s b [] = ([], sym (append-nil b.ends))
 ends_more s b (Started ticket request ∷ events) = ends_more s (after s b (Started ticket request)) events
@@ -69,9 +69,9 @@ ends_more s b (Gone ticket ∷ events) = ends_more s (after s b (Gone ticket)) e
 -- what a prefix of a journal commits is a prefix of what the journal commits
 pub commits_prefix : (s : Work) (xs ys : List Event) → (more : List Record) × (commits s (xs ++ ys) ≡ commits s xs ++ more)
 commits_prefix s xs ys =
-    let later = ends_more s (book_of s xs) ys in (
+    let later = ends_more s (progress_of s xs) ys in (
       commits_of s.graph later.0,
-      ap (λ (book : Book). commits_of s.graph book.ends) (after_all-append s empty_book xs ys)
+      ap (λ (progress : BuildProgress). commits_of s.graph progress.ends) (after_all-append s empty_progress xs ys)
           ∙ ap (commits_of s.graph) later.1
-          ∙ flat_map-append (commit_of s.graph) (book_of s xs).ends later.0,
+          ∙ flat_map-append (commit_of s.graph) (progress_of s xs).ends later.0,
     )

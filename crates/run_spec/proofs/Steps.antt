@@ -12,23 +12,23 @@ use Rattle.base.specs.declared.child.Exit.{Exit}
 use Rattle.base.specs.declared.child.Event.{Event}
 use Rattle.base.specs.declared.child.Event.TheVariants.{Started, Ended, Gone}
 use Rattle.outside.specs.Children.{started_with, IsFresh}
-use Rattle.run_spec.specs.Moves.{Core, start_now, LawfulMoves}
-use Rattle.run_spec.specs.ChildJournal.{Work, Run, Book, empty_book, job_of, child_of_run, core_of, next_position, files_below, request_at, run_of, others_of, after, moves_after, AreRequested, EachAfter, HasFreshTicket, HoldsAnswer, Answered, Lawful}
-use Rattle.run_spec.proofs.Journal.{core_after}
+use Rattle.run_spec.specs.Moves.{SchedulerState, start_now, LawfulMoves}
+use Rattle.run_spec.specs.ChildJournal.{Work, Run, BuildProgress, empty_progress, workload_of, child_of_run, schedule_of, next_position, files_below, request_at, run_of, others_of, after, moves_after, AreRequested, EachAfter, HasFreshTicket, HoldsAnswer, Answered, Lawful}
+use Rattle.run_spec.proofs.Journal.{schedule_after}
 
 -- a start takes a free slot, comes while the build isn't halted, and asks for the least file that may be started
-pub record IsStart (setting : Work) (book : Book) (request : Request) : Type 0 where
-  pub free : length book.runs < setting.slots
-  pub goes_on : book.halted ≡ false
-  pub least : option_and_then (request_at setting book.ends) (next_position setting book) ≡ Some request
+pub record IsStart (setting : Work) (progress : BuildProgress) (request : Request) : Type 0 where
+  pub free : length progress.runs < setting.slots
+  pub goes_on : progress.halted ≡ false
+  pub least : option_and_then (request_at setting progress.ends) (next_position setting progress) ≡ Some request
 
 -- each start is one, and each end holds the answer to what its running child was started with
-unfoldable pub Steps : (Request → Exit) → Work → Book → List Event → Type 0
-Steps answer setting book [] = Unit {0}
-Steps answer setting book (Started ticket request ∷ events) = IsStart setting book request × Steps answer setting (after setting book (Started ticket request)) events
-Steps answer setting book (Ended ticket exit ∷ events) =
-    (option_map (λ run. answer run.request) (run_of ticket book.runs) ≡ Some exit) × Steps answer setting (after setting book (Ended ticket exit)) events
-Steps answer setting book (Gone ticket ∷ events) = Steps answer setting (after setting book (Gone ticket)) events
+unfoldable pub Steps : (Request → Exit) → Work → BuildProgress → List Event → Type 0
+Steps answer setting progress [] = Unit {0}
+Steps answer setting progress (Started ticket request ∷ events) = IsStart setting progress request × Steps answer setting (after setting progress (Started ticket request)) events
+Steps answer setting progress (Ended ticket exit ∷ events) =
+    (option_map (λ run. answer run.request) (run_of ticket progress.runs) ≡ Some exit) × Steps answer setting (after setting progress (Ended ticket exit)) events
+Steps answer setting progress (Gone ticket ∷ events) = Steps answer setting (after setting progress (Gone ticket)) events
 
 -- what is found in a list has what all of the list have
 pub run_found : (P : Run → Type 0) (runs : List Run) (ticket : ℕ) (run : Run) → run_of ticket runs ≡ Some run → All P runs → P run
@@ -94,7 +94,7 @@ fresh_after (Ended other e ∷ xs) ys ticket h = fresh_after xs ys ticket h
 fresh_after (Gone other ∷ xs) ys ticket h = fresh_after xs ys ticket h
 
 -- the position that is to be started now
-pub now_parts : (s : Work) (b : Book) (position : ℕ) → start_now (job_of s) (core_of b) ≡ Some position → (length b.runs < s.slots) × (b.halted ≡ false) × (next_position s b ≡ Some position)
+pub now_parts : (s : Work) (b : BuildProgress) (position : ℕ) → start_now (workload_of s) (schedule_of b) ≡ Some position → (length b.runs < s.slots) × (b.halted ≡ false) × (next_position s b ≡ Some position)
 now_parts s b position h =
     elim (cases_Bool (ltb (length (map child_of_run b.runs)) s.slots && not b.halted)) [
       | inl t ↦
@@ -106,7 +106,7 @@ now_parts s b position h =
       | inr f ↦ absurd (none-some position (sym (cond-false (ltb (length (map child_of_run b.runs)) s.slots && not b.halted) (next_position s b) None f) ∙ h))
     ]
 
-start_from : (s : Work) (b : Book) (request : Request) → (next : Option ℕ) → next_position s b ≡ next → start_now (job_of s) (core_of b) ≡ Some (unwrap_or next 0) →
+start_from : (s : Work) (b : BuildProgress) (request : Request) → (next : Option ℕ) → next_position s b ≡ next → start_now (workload_of s) (schedule_of b) ≡ Some (unwrap_or next 0) →
     option_and_then (request_at s b.ends) (next_position s b) ≡ Some request → IsStart s b request
 start_from s b request next e now asked = let parts = now_parts s b (unwrap_or next 0) now in record { free = parts.0; goes_on = parts.1; least = asked }
 
@@ -119,21 +119,21 @@ still_all before event runs all =
     All-weaker (λ run. started_with run.ticket before ≡ Some run.request) (λ run. started_with run.ticket (before ++ event ∷ []) ≡ Some run.request)
     (λ run is. still_started before event run.ticket run.request is) runs all
 
-pub started_all : (s : Work) (before : List Event) (b : Book) (t : ℕ) (r : Request) → AreStarted before b.runs → IsFresh before t → AreStarted (before ++ Started t r ∷ []) (after s b (Started t r)).runs
+pub started_all : (s : Work) (before : List Event) (b : BuildProgress) (t : ℕ) (r : Request) → AreStarted before b.runs → IsFresh before t → AreStarted (before ++ Started t r ∷ []) (after s b (Started t r)).runs
 unfolding after
 started_all s before b t r all fresh =
     All-push (λ run. started_with run.ticket (before ++ Started t r ∷ []) ≡ Some run.request) b.runs (record { ticket = t; position = unwrap_or (next_position s b) 0; request = r; below = files_below s b.ends (unwrap_or (next_position s b) 0) })
     (still_all before (Started t r) b.runs all) (started_is before t r fresh)
 
-pub ended_all : (s : Work) (before : List Event) (b : Book) (t : ℕ) (e : Exit) → AreStarted before b.runs → AreStarted (before ++ Ended t e ∷ []) (after s b (Ended t e)).runs
+pub ended_all : (s : Work) (before : List Event) (b : BuildProgress) (t : ℕ) (e : Exit) → AreStarted before b.runs → AreStarted (before ++ Ended t e ∷ []) (after s b (Ended t e)).runs
 unfolding after
 ended_all s before b t e all = still_all before (Ended t e) (others_of t b.runs) (All-others (λ run. started_with run.ticket before ≡ Some run.request) b.runs t all)
 
-pub gone_all : (s : Work) (before : List Event) (b : Book) (t : ℕ) → AreStarted before b.runs → AreStarted (before ++ Gone t ∷ []) (after s b (Gone t)).runs
+pub gone_all : (s : Work) (before : List Event) (b : BuildProgress) (t : ℕ) → AreStarted before b.runs → AreStarted (before ++ Gone t ∷ []) (after s b (Gone t)).runs
 unfolding after
 gone_all s before b t all = still_all before (Gone t) (others_of t b.runs) (All-others (λ run. started_with run.ticket before ≡ Some run.request) b.runs t all)
 
-answer_from : (answer : Request → Exit) (before : List Event) (b : Book) (ticket : ℕ) (exit : Exit) → AreStarted before b.runs → list_any (λ child. eqb child.ticket ticket) (map child_of_run b.runs) ≡ true →
+answer_from : (answer : Request → Exit) (before : List Event) (b : BuildProgress) (ticket : ℕ) (exit : Exit) → AreStarted before b.runs → list_any (λ child. eqb child.ticket ticket) (map child_of_run b.runs) ≡ true →
     option_map answer (started_with ticket before) ≡ Some exit → option_map (λ run. answer run.request) (run_of ticket b.runs) ≡ Some exit
 answer_from answer before b ticket exit all runs h =
     let found = run_of_running ticket b.runs runs in
@@ -141,8 +141,8 @@ answer_from answer before b ticket exit all runs h =
     let here : started_with ticket before ≡ Some found.0.request = subst (λ (t : ℕ). started_with t before ≡ Some found.0.request) found.2 started in
     ap (option_map (λ run. answer run.request)) found.1 ∙ sym (ap (option_map answer) here) ∙ h
 
-steps_from : (answer : Request → Exit) (s : Work) (before : List Event) (b : Book) → AreStarted before b.runs → (events : List Event) →
-    LawfulMoves (job_of s) (core_of b) (moves_after s b events) → AreRequested s b events → EachAfter HasFreshTicket before events → EachAfter (HoldsAnswer answer) before events →
+steps_from : (answer : Request → Exit) (s : Work) (before : List Event) (b : BuildProgress) → AreStarted before b.runs → (events : List Event) →
+    LawfulMoves (workload_of s) (schedule_of b) (moves_after s b events) → AreRequested s b events → EachAfter HasFreshTicket before events → EachAfter (HoldsAnswer answer) before events →
     Steps answer s b events
 unfolding LawfulMoves AreRequested EachAfter moves_after Steps
 steps_from answer s before b all [] moves requests tickets answers = tt
@@ -150,19 +150,19 @@ steps_from answer s before b all (Started t r ∷ events) moves requests tickets
   start_from s b r (next_position s b) refl moves.0 requests.0,
   steps_from answer s (before ++ Started t r ∷ []) (after s b (Started t r))
       (started_all s before b t r all tickets.0)
-      events (subst (λ (core : Core). LawfulMoves (job_of s) core (moves_after s (after s b (Started t r)) events)) (sym (core_after s b (Started t r))) moves.1) requests.1 tickets.1 answers.1,
+      events (subst (λ (schedule : SchedulerState). LawfulMoves (workload_of s) schedule (moves_after s (after s b (Started t r)) events)) (sym (schedule_after s b (Started t r))) moves.1) requests.1 tickets.1 answers.1,
 )
 steps_from answer s before b all (Ended t e ∷ events) moves requests tickets answers = (
   answer_from answer before b t e all moves.0 answers.0,
   steps_from answer s (before ++ Ended t e ∷ []) (after s b (Ended t e))
       (ended_all s before b t e all)
-      events (subst (λ (core : Core). LawfulMoves (job_of s) core (moves_after s (after s b (Ended t e)) events)) (sym (core_after s b (Ended t e))) moves.1) requests.1 tickets.1 answers.1,
+      events (subst (λ (schedule : SchedulerState). LawfulMoves (workload_of s) schedule (moves_after s (after s b (Ended t e)) events)) (sym (schedule_after s b (Ended t e))) moves.1) requests.1 tickets.1 answers.1,
 )
 steps_from answer s before b all (Gone t ∷ events) moves requests tickets answers =
     steps_from answer s (before ++ Gone t ∷ []) (after s b (Gone t))
     (gone_all s before b t all)
-    events (subst (λ (core : Core). LawfulMoves (job_of s) core (moves_after s (after s b (Gone t)) events)) (sym (core_after s b (Gone t))) moves.1) requests.1 tickets.1 answers.1
+    events (subst (λ (schedule : SchedulerState). LawfulMoves (workload_of s) schedule (moves_after s (after s b (Gone t)) events)) (sym (schedule_after s b (Gone t))) moves.1) requests.1 tickets.1 answers.1
 
 -- a lawful journal whose ends are answers goes step by step
-pub steps_of : (answer : Request → Exit) (s : Work) (events : List Event) → Lawful s events → Answered answer events → Steps answer s empty_book events
-steps_of answer s events lawful answered = steps_from answer s [] empty_book (All-nil (λ run. started_with run.ticket [] ≡ Some run.request)) events lawful.moves lawful.requests lawful.tickets answered
+pub steps_of : (answer : Request → Exit) (s : Work) (events : List Event) → Lawful s events → Answered answer events → Steps answer s empty_progress events
+steps_of answer s events lawful answered = steps_from answer s [] empty_progress (All-nil (λ run. started_with run.ticket [] ≡ Some run.request)) events lawful.moves lawful.requests lawful.tickets answered

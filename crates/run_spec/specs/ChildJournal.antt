@@ -12,7 +12,7 @@ use Rattle.base.specs.Jobs.{compile_request}
 use Rattle.outside.specs.Children.{started_with, IsFresh}
 use Rattle.outside.specs.Records.{deps_at}
 use Rattle.run_spec.specs.Folds.{upto}
-use Rattle.run_spec.specs.Moves.{Job, RunningChild, EndedChild, Core, empty_core, Move, Starts, Ends, Loses, next_start, LawfulMoves, GreedyMoves, IsFinished}
+use Rattle.run_spec.specs.Moves.{Workload, RunningChild, EndedChild, SchedulerState, empty_schedule, Move, Starts, Ends, Loses, next_start, LawfulMoves, GreedyMoves, IsFinished}
 
 -- what a build works on: the graph; the artefact that a record gives of the file at a position, where it is current over what
 -- was built below the file; how many children run at once; and whether the build goes on after a refusal
@@ -37,15 +37,15 @@ pub record End : Type 0 where
   pub exit : Exit
 
 -- what has happened in a build so far
-pub record Book : Type 0 where
+pub record BuildProgress : Type 0 where
   pub taken : List ℕ
   pub runs : List Run
   pub ends : List End
   pub halted : Bool
 
 -- before the first event of a build
-abbrev pub empty_book : Book
-empty_book = record { taken = []; runs = []; ends = []; halted = false }
+abbrev pub empty_progress : BuildProgress
+empty_progress = record { taken = []; runs = []; ends = []; halted = false }
 
 -- the exit of the first child of the file at a position that has ended
 unfoldable pub exit_at : List End → ℕ → Option Exit
@@ -99,8 +99,8 @@ abbrev pub artefact_so_far : Work → List End → ℕ → Option (List ℕ)
 artefact_so_far work ends position = artefact_by work (map child_of_end ends) position
 
 -- what the order of a build follows from: a file is made where it has an artefact
-abbrev pub job_of : Work → Job
-job_of work = record {
+abbrev pub workload_of : Work → Workload
+workload_of work = record {
   count = length work.graph;
   deps = λ position. deps_at work.graph position;
   is_made = λ ended position. is_some (artefact_by work ended position);
@@ -109,8 +109,8 @@ job_of work = record {
 }
 
 -- what has happened, apart from requests and exits
-abbrev pub core_of : Book → Core
-core_of book = record { taken = book.taken; running = map child_of_run book.runs; ended = map child_of_end book.ends; halted = book.halted }
+abbrev pub schedule_of : BuildProgress → SchedulerState
+schedule_of progress = record { taken = progress.taken; running = map child_of_run progress.runs; ended = map child_of_end progress.ends; halted = progress.halted }
 
 -- what a compiler is started with for the file at a position, after these ends
 unfoldable pub request_at : Work → List End → ℕ → Option Request
@@ -122,8 +122,8 @@ abbrev pub files_below : Work → List End → ℕ → List BuiltFile
 files_below setting ends position = built_at setting.graph (artefact_so_far setting ends) (deps_at setting.graph position)
 
 -- the position of the file that the next start is of
-abbrev pub next_position : Work → Book → Option ℕ
-next_position setting book = next_start (job_of setting) (core_of book)
+abbrev pub next_position : Work → BuildProgress → Option ℕ
+next_position setting progress = next_start (workload_of setting) (schedule_of progress)
 
 -- the running child of a ticket
 abbrev pub run_of : ℕ → List Run → Option Run
@@ -141,53 +141,53 @@ end_of None exit = []
 end_of (Some run) exit = record { position = run.position; request = run.request; below = run.below; exit = exit } ∷ []
 
 -- what has happened after one more event
-unfoldable pub after : Work → Book → Event → Book
-after setting book (Started ticket request) =
-    let position = unwrap_or (next_position setting book) 0 in
-    record { taken = book.taken ++ position ∷ []; runs = book.runs ++ (record { ticket = ticket; position = position; request = request; below = files_below setting book.ends position }) ∷ []; ends = book.ends; halted = book.halted }
-after setting book (Ended ticket exit) =
-    record { taken = book.taken; runs = others_of ticket book.runs; ends = book.ends ++ end_of (run_of ticket book.runs) exit; halted = book.halted || (not setting.keep_going && not (exit.code == 0)) }
-after setting book (Gone ticket) =
-    record { taken = book.taken; runs = others_of ticket book.runs; ends = book.ends; halted = true }
+unfoldable pub after : Work → BuildProgress → Event → BuildProgress
+after setting progress (Started ticket request) =
+    let position = unwrap_or (next_position setting progress) 0 in
+    record { taken = progress.taken ++ position ∷ []; runs = progress.runs ++ (record { ticket = ticket; position = position; request = request; below = files_below setting progress.ends position }) ∷ []; ends = progress.ends; halted = progress.halted }
+after setting progress (Ended ticket exit) =
+    record { taken = progress.taken; runs = others_of ticket progress.runs; ends = progress.ends ++ end_of (run_of ticket progress.runs) exit; halted = progress.halted || (not setting.keep_going && not (exit.code == 0)) }
+after setting progress (Gone ticket) =
+    record { taken = progress.taken; runs = others_of ticket progress.runs; ends = progress.ends; halted = true }
 
 -- what has happened after events
-unfoldable pub after_all : Work → Book → List Event → Book
-after_all setting book [] = book
-after_all setting book (event ∷ events) = after_all setting (after setting book event) events
+unfoldable pub after_all : Work → BuildProgress → List Event → BuildProgress
+after_all setting progress [] = progress
+after_all setting progress (event ∷ events) = after_all setting (after setting progress event) events
 
 -- what has happened after events, from the start
-abbrev pub book_of : Work → List Event → Book
-book_of setting events = after_all setting empty_book events
+abbrev pub progress_of : Work → List Event → BuildProgress
+progress_of setting events = after_all setting empty_progress events
 
 -- the artefact that the file at a position has after events
 abbrev pub artefact_after : Work → List Event → ℕ → Option (List ℕ)
-artefact_after setting events position = artefact_so_far setting (book_of setting events).ends position
+artefact_after setting events position = artefact_so_far setting (progress_of setting events).ends position
 
 -- the move of an event
-abbrev pub move_of : Work → Book → Event → Move
-move_of setting book (Started ticket request) = Starts (unwrap_or (next_position setting book) 0) ticket
-move_of setting book (Ended ticket exit) = Ends ticket (exit.code == 0) exit.output
-move_of setting book (Gone ticket) = Loses ticket
+abbrev pub move_of : Work → BuildProgress → Event → Move
+move_of setting progress (Started ticket request) = Starts (unwrap_or (next_position setting progress) 0) ticket
+move_of setting progress (Ended ticket exit) = Ends ticket (exit.code == 0) exit.output
+move_of setting progress (Gone ticket) = Loses ticket
 
 -- the moves of events
-unfoldable pub moves_after : Work → Book → List Event → List Move
-moves_after setting book [] = []
-moves_after setting book (event ∷ events) = move_of setting book event ∷ moves_after setting (after setting book event) events
+unfoldable pub moves_after : Work → BuildProgress → List Event → List Move
+moves_after setting progress [] = []
+moves_after setting progress (event ∷ events) = move_of setting progress event ∷ moves_after setting (after setting progress event) events
 
 -- the moves of the events of a build, from its beginning on
 abbrev pub moves_of : Work → List Event → List Move
-moves_of setting events = moves_after setting empty_book events
+moves_of setting events = moves_after setting empty_progress events
 
 -- a start is made with what its file's compiler is started with, over the artefacts so far
-abbrev pub IsRequested : Work → Book → Event → Type 0
-IsRequested setting book (Started ticket request) = option_and_then (request_at setting book.ends) (next_position setting book) ≡ Some request
-IsRequested setting book (Ended ticket exit) = Unit {0}
-IsRequested setting book (Gone ticket) = Unit {0}
+abbrev pub IsRequested : Work → BuildProgress → Event → Type 0
+IsRequested setting progress (Started ticket request) = option_and_then (request_at setting progress.ends) (next_position setting progress) ≡ Some request
+IsRequested setting progress (Ended ticket exit) = Unit {0}
+IsRequested setting progress (Gone ticket) = Unit {0}
 
 -- each start is made with what its file's compiler is started with, over what has happened before it
-unfoldable pub AreRequested : Work → Book → List Event → Type 0
-AreRequested setting book [] = Unit {0}
-AreRequested setting book (event ∷ events) = IsRequested setting book event × AreRequested setting (after setting book event) events
+unfoldable pub AreRequested : Work → BuildProgress → List Event → Type 0
+AreRequested setting progress [] = Unit {0}
+AreRequested setting progress (event ∷ events) = IsRequested setting progress event × AreRequested setting (after setting progress event) events
 
 -- each event is as is said of it and of the events before it
 unfoldable pub EachAfter : (List Event → Event → Type 0) → List Event → List Event → Type 0
@@ -202,13 +202,13 @@ HasFreshTicket before (Gone ticket) = Unit {0}
 
 -- The events' moves are lawful, each start has the request of its file, and no ticket is given twice.
 pub record Lawful (setting : Work) (events : List Event) : Type 0 where
-  pub moves : LawfulMoves (job_of setting) empty_core (moves_of setting events)
-  pub requests : AreRequested setting empty_book events
+  pub moves : LawfulMoves (workload_of setting) empty_schedule (moves_of setting events)
+  pub requests : AreRequested setting empty_progress events
   pub tickets : EachAfter HasFreshTicket [] events
 
 -- a child's end is asked for only where nothing is to be started
 abbrev pub Greedy : Work → List Event → Type 0
-Greedy setting events = GreedyMoves (job_of setting) empty_core (moves_of setting events)
+Greedy setting events = GreedyMoves (workload_of setting) empty_schedule (moves_of setting events)
 
 -- an end holds the answer to what its ticket was started with
 abbrev pub HoldsAnswer : (Request → Exit) → List Event → Event → Type 0
@@ -230,7 +230,7 @@ is_gone (Gone ticket) = true
 pub record IsWhole (setting : Work) (events : List Event) : Type 0 where
   pub lawful : Lawful setting events
   pub greedy : Greedy setting events
-  pub finished : IsFinished (job_of setting) (core_of (book_of setting events))
+  pub finished : IsFinished (workload_of setting) (schedule_of (progress_of setting events))
   pub none_lost : list_any is_gone events ≡ false
 
 -- what the journal has since it was old

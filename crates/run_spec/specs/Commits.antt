@@ -8,7 +8,7 @@ use Rattle.base.specs.declared.graph.Entry.{Entry}
 use Rattle.base.specs.declared.child.Event.{Event}
 use Rattle.base.specs.declared.child.Event.TheVariants.{Started, Ended, Gone}
 use Rattle.outside.specs.Records.{Asked, Record, asked_of}
-use Rattle.run_spec.specs.ChildJournal.{Work, End, EachAfter, book_of}
+use Rattle.run_spec.specs.ChildJournal.{Work, End, EachAfter, progress_of}
 use Rattle.run_spec.specs.Recorded.{current_by_request}
 
 -- what a build over a store works on, by the latest record of each name
@@ -33,7 +33,7 @@ commits_of graph ends = flat_map (commit_of graph) ends
 
 -- the records that a build with these events commits, in order
 abbrev pub commits : Work → List Event → List Record
-commits setting events = commits_of setting.graph (book_of setting events).ends
+commits setting events = commits_of setting.graph (progress_of setting events).ends
 
 -- a start comes where all commits so far are among so many
 abbrev pub ComesAfterCommits : Work → ℕ → List Event → Event → Type 0

@@ -5,7 +5,11 @@ pub mod ChildJournal
 pub mod JournalParts
 pub mod Settled
 pub mod CleanBuild
-pub mod Marks
+pub mod Statuses
 pub mod Recorded
 pub mod Faithful
 pub mod Commits
+pub mod Histories
+pub mod Steps
+pub mod Faults
+pub mod TestJournal

@@ -15,7 +15,7 @@ pub record EndedChild : Type 0 where
 
 -- what the order of a build follows from: how many files there are, which files each one depends on, which are made once
 -- these children have ended, how many children run at once, and whether the build goes on after a refusal
-pub record Job : Type 0 where
+pub record Workload : Type 0 where
   pub count : ℕ
   pub deps : ℕ → List ℕ
   pub is_made : List EndedChild → ℕ → Bool
@@ -24,15 +24,15 @@ pub record Job : Type 0 where
 
 -- what has happened in a build so far: the positions of the files that were started, the running children, the ended
 -- ones, and whether nothing more is started
-pub record Core : Type 0 where
+pub record SchedulerState : Type 0 where
   pub taken : List ℕ
   pub running : List RunningChild
   pub ended : List EndedChild
   pub halted : Bool
 
 -- before the first move
-abbrev pub empty_core : Core
-empty_core = record { taken = []; running = []; ended = []; halted = false }
+abbrev pub empty_schedule : SchedulerState
+empty_schedule = record { taken = []; running = []; ended = []; halted = false }
 
 -- The file at a position is started with this ticket; the child of a ticket ends; its end is lost; or nothing more is
 -- started from now on.
@@ -43,29 +43,29 @@ pub data Move : Type 0 where
   Halts : Move
 
 -- the file at a position was started
-abbrev pub is_taken : Core → ℕ → Bool
-is_taken core position = list_any (λ other. other == position) core.taken
+abbrev pub is_taken : SchedulerState → ℕ → Bool
+is_taken schedule position = list_any (λ other. other == position) schedule.taken
 
 -- a child of the file at a position has ended well
 unfoldable pub has_ended_well : List EndedChild → ℕ → Bool
 has_ended_well ended position = list_any (λ end. end.position == position && end.ok) ended
 
 -- the file at a position is made
-abbrev pub is_made_so_far : Job → Core → ℕ → Bool
-is_made_so_far job core position = job.is_made core.ended position
+abbrev pub is_made_so_far : Workload → SchedulerState → ℕ → Bool
+is_made_so_far workload schedule position = workload.is_made schedule.ended position
 
 -- What is made follows step by step: a file depends on files before it, is made only where all of these are, and once they are
 -- nothing more makes it but the good end of its child.
-pub record IsStepwise (job : Job) : Type 0 where
-  pub before : (position : ℕ) → position < job.count → All (λ dep. dep < position) (job.deps position)
-  pub after_deps : (ended : List EndedChild) (position : ℕ) → position < job.count → job.is_made ended position ≡ true → list_all (job.is_made ended) (job.deps position) ≡ true
-  pub by_end : (ended : List EndedChild) (end : EndedChild) (position : ℕ) → position < job.count → list_all (job.is_made ended) (job.deps position) ≡ true →
-      job.is_made (ended ++ end ∷ []) position ≡ (job.is_made ended position || (end.position == position && end.ok))
+pub record IsStepwise (workload : Workload) : Type 0 where
+  pub before : (position : ℕ) → position < workload.count → All (λ dep. dep < position) (workload.deps position)
+  pub after_deps : (ended : List EndedChild) (position : ℕ) → position < workload.count → workload.is_made ended position ≡ true → list_all (workload.is_made ended) (workload.deps position) ≡ true
+  pub by_end : (ended : List EndedChild) (end : EndedChild) (position : ℕ) → position < workload.count → list_all (workload.is_made ended) (workload.deps position) ≡ true →
+      workload.is_made (ended ++ end ∷ []) position ≡ (workload.is_made ended position || (end.position == position && end.ok))
 
 -- the file at a position wasn't started, isn't made, and all that it depends on is made
-unfoldable pub is_startable : Job → Core → ℕ → Bool
-is_startable job core position =
-    not (is_taken core position) && not (is_made_so_far job core position) && list_all (is_made_so_far job core) (job.deps position)
+unfoldable pub is_startable : Workload → SchedulerState → ℕ → Bool
+is_startable workload schedule position =
+    not (is_taken schedule position) && not (is_made_so_far workload schedule position) && list_all (is_made_so_far workload schedule) (workload.deps position)
 
 -- the first position of the next so many that passes
 unfoldable pub first_from : (ℕ → Bool) → ℕ → ℕ → Option ℕ
@@ -73,16 +73,16 @@ first_from test position zero = None
 first_from test position (suc n) = if test position then Some position else first_from test (suc position) n
 
 -- the least position of a file that may be started
-unfoldable pub next_start : Job → Core → Option ℕ
-next_start job core = first_from (is_startable job core) 0 job.count
+unfoldable pub next_start : Workload → SchedulerState → Option ℕ
+next_start workload schedule = first_from (is_startable workload schedule) 0 workload.count
 
 -- the position that is to be started now: there is a free slot, and the build isn't halted
-abbrev pub start_now : Job → Core → Option ℕ
-start_now job core = if nat_lt (length core.running) job.slots && not core.halted then next_start job core else None
+abbrev pub start_now : Workload → SchedulerState → Option ℕ
+start_now workload schedule = if nat_lt (length schedule.running) workload.slots && not schedule.halted then next_start workload schedule else None
 
 -- a child of this ticket runs
-abbrev pub is_running : Core → ℕ → Bool
-is_running core ticket = list_any (λ child. child.ticket == ticket) core.running
+abbrev pub is_running : SchedulerState → ℕ → Bool
+is_running schedule ticket = list_any (λ child. child.ticket == ticket) schedule.running
 
 -- the position of the file whose running child has this ticket
 abbrev pub position_of : ℕ → List RunningChild → Option ℕ
@@ -100,44 +100,44 @@ ended_child None ok output = []
 ended_child (Some position) ok output = record { position = position; ok = ok; output = output } ∷ []
 
 -- what has happened after one more move
-unfoldable pub after_move : Job → Core → Move → Core
-after_move job core (Starts position ticket) =
-    record { taken = core.taken ++ position ∷ []; running = core.running ++ (record { ticket = ticket; position = position }) ∷ []; ended = core.ended; halted = core.halted }
-after_move job core (Ends ticket ok output) =
-    record { taken = core.taken; running = without_child ticket core.running; ended = core.ended ++ ended_child (position_of ticket core.running) ok output; halted = core.halted || (not job.keep_going && not ok) }
-after_move job core (Loses ticket) = record { taken = core.taken; running = without_child ticket core.running; ended = core.ended; halted = true }
-after_move job core Halts = record { taken = core.taken; running = core.running; ended = core.ended; halted = true }
+unfoldable pub after_move : Workload → SchedulerState → Move → SchedulerState
+after_move workload schedule (Starts position ticket) =
+    record { taken = schedule.taken ++ position ∷ []; running = schedule.running ++ (record { ticket = ticket; position = position }) ∷ []; ended = schedule.ended; halted = schedule.halted }
+after_move workload schedule (Ends ticket ok output) =
+    record { taken = schedule.taken; running = without_child ticket schedule.running; ended = schedule.ended ++ ended_child (position_of ticket schedule.running) ok output; halted = schedule.halted || (not workload.keep_going && not ok) }
+after_move workload schedule (Loses ticket) = record { taken = schedule.taken; running = without_child ticket schedule.running; ended = schedule.ended; halted = true }
+after_move workload schedule Halts = record { taken = schedule.taken; running = schedule.running; ended = schedule.ended; halted = true }
 
 -- what has happened after moves
-unfoldable pub after_moves : Job → Core → List Move → Core
-after_moves job core [] = core
-after_moves job core (move ∷ moves) = after_moves job (after_move job core move) moves
+unfoldable pub after_moves : Workload → SchedulerState → List Move → SchedulerState
+after_moves workload schedule [] = schedule
+after_moves workload schedule (move ∷ moves) = after_moves workload (after_move workload schedule move) moves
 
 -- A start takes the position that is to be started now. An end and a loss are of a ticket that runs.
-abbrev pub IsLawfulMove : Job → Core → Move → Type 0
-IsLawfulMove job core (Starts position ticket) = start_now job core ≡ Some position
-IsLawfulMove job core (Ends ticket ok output) = IsTrue (is_running core ticket)
-IsLawfulMove job core (Loses ticket) = IsTrue (is_running core ticket)
-IsLawfulMove job core Halts = Unit {0}
+abbrev pub IsLawfulMove : Workload → SchedulerState → Move → Type 0
+IsLawfulMove workload schedule (Starts position ticket) = start_now workload schedule ≡ Some position
+IsLawfulMove workload schedule (Ends ticket ok output) = IsTrue (is_running schedule ticket)
+IsLawfulMove workload schedule (Loses ticket) = IsTrue (is_running schedule ticket)
+IsLawfulMove workload schedule Halts = Unit {0}
 
 -- each move is lawful where it comes
-unfoldable pub LawfulMoves : Job → Core → List Move → Type 0
-LawfulMoves job core [] = Unit {0}
-LawfulMoves job core (move ∷ moves) = IsLawfulMove job core move × LawfulMoves job (after_move job core move) moves
+unfoldable pub LawfulMoves : Workload → SchedulerState → List Move → Type 0
+LawfulMoves workload schedule [] = Unit {0}
+LawfulMoves workload schedule (move ∷ moves) = IsLawfulMove workload schedule move × LawfulMoves workload (after_move workload schedule move) moves
 
 -- an end is waited for only where nothing is to be started now
-abbrev pub IsGreedyMove : Job → Core → Move → Type 0
-IsGreedyMove job core (Starts position ticket) = Unit {0}
-IsGreedyMove job core (Ends ticket ok output) = start_now job core ≡ None
-IsGreedyMove job core (Loses ticket) = start_now job core ≡ None
-IsGreedyMove job core Halts = Unit {0}
+abbrev pub IsGreedyMove : Workload → SchedulerState → Move → Type 0
+IsGreedyMove workload schedule (Starts position ticket) = Unit {0}
+IsGreedyMove workload schedule (Ends ticket ok output) = start_now workload schedule ≡ None
+IsGreedyMove workload schedule (Loses ticket) = start_now workload schedule ≡ None
+IsGreedyMove workload schedule Halts = Unit {0}
 
 -- each end and each loss comes only where nothing is to be started at that moment
-unfoldable pub GreedyMoves : Job → Core → List Move → Type 0
-GreedyMoves job core [] = Unit {0}
-GreedyMoves job core (move ∷ moves) = IsGreedyMove job core move × GreedyMoves job (after_move job core move) moves
+unfoldable pub GreedyMoves : Workload → SchedulerState → List Move → Type 0
+GreedyMoves workload schedule [] = Unit {0}
+GreedyMoves workload schedule (move ∷ moves) = IsGreedyMove workload schedule move × GreedyMoves workload (after_move workload schedule move) moves
 
 -- no child runs, and no file may be started or the build is halted
-pub record IsFinished (job : Job) (core : Core) : Type 0 where
-  pub idle : core.running ≡ []
-  pub over : IsTrue (is_none (next_start job core) || core.halted)
+pub record IsFinished (workload : Workload) (schedule : SchedulerState) : Type 0 where
+  pub idle : schedule.running ≡ []
+  pub over : IsTrue (is_none (next_start workload schedule) || schedule.halted)

@@ -8,7 +8,7 @@ ghost use Rattle.base.specs.declared.graph.BuiltFile.{BuiltFile};
 ghost use Rattle.outside.specs.Records.{Asked, Record, asked_of};
 ghost use Rattle.base.specs.Graphs.{IsGraph};
 ghost use Rattle.run_spec.specs.Moves.{IsStepwise};
-ghost use Rattle.run_spec.specs.ChildJournal.{Work, End, artefact_so_far, job_of};
+ghost use Rattle.run_spec.specs.ChildJournal.{Work, End, artefact_so_far, workload_of};
 ghost use Rattle.run_spec.specs.Recorded.{current_by_request, is_same_asked};
 
 /// What is recorded of a file over files that were built: the artefact of its latest record where that record has what would be
@@ -36,5 +36,5 @@ pub fn laws_of_artefacts()
         (position : ℕ) → position < end.position →
         artefact_so_far work (ends ++ end ∷ []) position ≡ artefact_so_far work ends position }
     // and what is made follows step by step.
-    ensures stepwise { (work : Work) → IsGraph work.graph → IsStepwise (job_of work) }
+    ensures stepwise { (work : Work) → IsGraph work.graph → IsStepwise (workload_of work) }
 {}

@@ -10,10 +10,10 @@ use Rattle.base.specs.declared.file.FileName.{FileName}
 use Rattle.base.specs.declared.graph.BuiltFile.{BuiltFile}
 use Rattle.base.specs.Names.{is_same_name}
 use Rattle.base.specs.declared.limits.TheConstants.{ARTEFACT_LIMIT, FILE_LIMIT, TEXT_LIMIT}
-use Rattle.base_ranges.proofs.Sized.{all-Decides, command_sizes-Decides, name_sizes-Decides, nat_le-Decides, same_name-Decides}
+use Rattle.base_bytes.proofs.Sized.{all-Decides, command_sizes-Decides, name_sizes-Decides, nat_le-Decides, same_name-Decides}
 use Rattle.store_codec.specs.Forms.{ProductDraft, RequestDraft}
-use Rattle.store_codec.specs.Shelves.{IsNewProduct, IsRequest, RequestShelf, are_apart, drafted_artefact, drafted_product, is_new_product, is_request, is_same_built, product_at}
-use Rattle.base_ranges.specs.TextRefs.{is_text_ref, told_text, with_text}
+use Rattle.store_codec.specs.RecordTables.{IsNewProduct, IsRequest, RecordTable, are_apart, drafted_artefact, drafted_product, is_new_product, is_request, is_same_built, product_at}
+use Rattle.base_bytes.specs.TextRefs.{is_text_ref, told_text, with_text}
 
 pub same_built-Decides : (a b : BuiltFile) → Decides (is_same_built a b) (a ≡ b)
 same_built-Decides a b =
@@ -50,20 +50,20 @@ not_itself : (b : Bool) → Decides (not b) (b ≡ false)
 not_itself true = (λ e. absurd cc, λ e. absurd cc)
 not_itself false = (λ e. refl, λ e. refl)
 
-pub new_product-Decides : (shelf : RequestShelf) (draft : ProductDraft) → Decides (is_new_product shelf draft) (IsNewProduct shelf draft)
+pub new_product-Decides : (table : RecordTable) (draft : ProductDraft) → Decides (is_new_product table draft) (IsNewProduct table draft)
 unfolding is_new_product
-new_product-Decides shelf draft =
-    Decides-like (is_new_product shelf draft)
+new_product-Decides table draft =
+    Decides-like (is_new_product table draft)
     (λ h. record { name = h.0; artefact = h.1.0; small = h.1.1.0; new = h.1.1.1 })
     (λ is. (is.name, (is.artefact, (is.small, is.new))))
     (Decides-and _ _ (name_sizes-Decides draft.name)
-    (Decides-and _ _ (itself (is_text_ref shelf.texts draft.artefact))
-    (Decides-and _ _ (nat_le-Decides (length (told_text shelf.texts draft.artefact)) ARTEFACT_LIMIT) (not_itself (list_any (is_same_built (drafted_product shelf.texts draft)) shelf.products)))))
+    (Decides-and _ _ (itself (is_text_ref table.texts draft.artefact))
+    (Decides-and _ _ (nat_le-Decides (length (told_text table.texts draft.artefact)) ARTEFACT_LIMIT) (not_itself (list_any (is_same_built (drafted_product table.texts draft)) table.products)))))
 
-pub request-Decides : (shelf : RequestShelf) (draft : RequestDraft) → Decides (is_request shelf draft) (IsRequest shelf draft)
+pub request-Decides : (table : RecordTable) (draft : RequestDraft) → Decides (is_request table draft) (IsRequest table draft)
 unfolding is_request
-request-Decides shelf draft =
-    Decides-like (is_request shelf draft)
+request-Decides table draft =
+    Decides-like (is_request table draft)
     (λ h. record {
       name = h.0;
       command = h.1.0;
@@ -79,9 +79,9 @@ request-Decides shelf draft =
     (λ is. (is.name, (is.command, (is.source, (is.text_small, (is.artefact, (is.small, (is.few, (is.there, (is.others, is.apart))))))))))
     (Decides-and _ _ (name_sizes-Decides draft.name)
     (Decides-and _ _ (command_sizes-Decides draft.command)
-    (Decides-and _ _ (itself (is_text_ref shelf.texts draft.source))
-    (Decides-and _ _ (nat_le-Decides (length (told_text shelf.texts draft.source)) TEXT_LIMIT)
-    (Decides-and _ _ (itself (is_text_ref (with_text shelf.texts draft.source) draft.artefact))
-    (Decides-and _ _ (nat_le-Decides (length (drafted_artefact shelf.texts draft)) ARTEFACT_LIMIT)
+    (Decides-and _ _ (itself (is_text_ref table.texts draft.source))
+    (Decides-and _ _ (nat_le-Decides (length (told_text table.texts draft.source)) TEXT_LIMIT)
+    (Decides-and _ _ (itself (is_text_ref (with_text table.texts draft.source) draft.artefact))
+    (Decides-and _ _ (nat_le-Decides (length (drafted_artefact table.texts draft)) ARTEFACT_LIMIT)
     (Decides-and _ _ (Decides-ltb (length draft.deps) FILE_LIMIT)
-    (Decides-and _ _ (all-Decides (λ dep. nat_lt dep (length shelf.products)) (λ dep. dep < length shelf.products) (λ dep. Decides-ltb dep (length shelf.products)) draft.deps) (apart-Decides draft.name (map (product_at shelf.products) draft.deps))))))))))
+    (Decides-and _ _ (all-Decides (λ dep. nat_lt dep (length table.products)) (λ dep. dep < length table.products) (λ dep. Decides-ltb dep (length table.products)) draft.deps) (apart-Decides draft.name (map (product_at table.products) draft.deps))))))))))

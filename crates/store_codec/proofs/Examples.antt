@@ -7,12 +7,12 @@ use Rattle.base.specs.Jobs.{name_bytes}
 use Rattle.base_bytes.specs.Reading.{counted_at, many_at, text_at}
 use Rattle.base_bytes.specs.Names.{name_at}
 use Rattle.outside.specs.Records.{Record as RequestRecord, latest_alone as latest_requests}
-use Rattle.store_codec.specs.Carrying.{carried_from, carry_own, carry_product, carry_request, compacted_requests}
+use Rattle.store_codec.specs.Compaction.{compacted_from, compact_own, compact_product, compact_request, compacted_requests}
 use Rattle.store_codec.specs.Forms.{command_bytes, product_draft_bytes, product_in, product_numbers_bytes, request_draft_bytes, request_in, request_payload_by, request_payload_bytes, request_payload_in, text_ref_bytes}
-use Rattle.base_ranges.specs.TextRefs.{ref_by_number_at, ref_in_full_at, text_ref_at, text_ref_by}
-use Rattle.base_ranges.specs.TextRefs.TextRef.{ByNumber, InFull}
+use Rattle.base_bytes.specs.TextRefs.{ref_by_number_at, ref_in_full_at, text_ref_at, text_ref_by}
+use Rattle.base_bytes.specs.TextRefs.TextRef.{ByNumber, InFull}
 use Rattle.store_codec.specs.Forms.RequestPayload.{OfRequest}
-use Rattle.store_codec.specs.Shelves.{after_request_payload, are_apart, is_new_product, is_request, request_shelf_of, with_request_payload}
+use Rattle.store_codec.specs.RecordTables.{after_request_payload, are_apart, is_new_product, is_request, record_table_of, with_request_payload}
 
 -- lib, the path, and cc
 abbrev head : ℕ → List ℕ
@@ -44,18 +44,18 @@ built letter artefact = record { name = record { library = 108 ∷ 105 ∷ 98 �
 abbrev asked : ℕ → List BuiltFile → ℕ → RequestRecord
 asked letter below artefact = record { asked = record { command = (99 ∷ 99 ∷ []) ∷ []; name = (built letter artefact).name; text = 120 ∷ []; below = below }; artefact = artefact ∷ [] }
 
-pub both : (request_shelf_of (first ∷ second ∷ [])).records ≡ asked 97 [] 121 ∷ asked 98 (built 97 121 ∷ []) 122 ∷ []
-unfolding request_shelf_of after_request_payload with_request_payload is_request is_new_product are_apart request_payload_in request_payload_by product_in request_in text_ref_at text_ref_by ref_by_number_at ref_in_full_at name_at text_at counted_at many_at
+pub both : (record_table_of (first ∷ second ∷ [])).records ≡ asked 97 [] 121 ∷ asked 98 (built 97 121 ∷ []) 122 ∷ []
+unfolding record_table_of after_request_payload with_request_payload is_request is_new_product are_apart request_payload_in request_payload_by product_in request_in text_ref_at text_ref_by ref_by_number_at ref_in_full_at name_at text_at counted_at many_at
 both = refl
 
 -- a payload that repeats its new texts stands for no record
-pub repeated : (request_shelf_of (first ∷ first ∷ [])).records ≡ asked 97 [] 121 ∷ []
-unfolding request_shelf_of after_request_payload with_request_payload is_request is_new_product are_apart request_payload_in request_payload_by product_in request_in text_ref_at text_ref_by ref_by_number_at ref_in_full_at name_at text_at counted_at many_at
+pub repeated : (record_table_of (first ∷ first ∷ [])).records ≡ asked 97 [] 121 ∷ []
+unfolding record_table_of after_request_payload with_request_payload is_request is_new_product are_apart request_payload_in request_payload_by product_in request_in text_ref_at text_ref_by ref_by_number_at ref_in_full_at name_at text_at counted_at many_at
 repeated = refl
 
 -- a product alone stands for no record, and one above it may have its artefact by its number
-pub alone : (request_shelf_of (product ∷ product ∷ over_product ∷ [])).records ≡ asked 98 (built 97 121 ∷ []) 121 ∷ []
-unfolding request_shelf_of after_request_payload with_request_payload is_request is_new_product are_apart request_payload_in request_payload_by product_in request_in text_ref_at text_ref_by ref_by_number_at ref_in_full_at name_at text_at counted_at many_at
+pub alone : (record_table_of (product ∷ product ∷ over_product ∷ [])).records ≡ asked 98 (built 97 121 ∷ []) 121 ∷ []
+unfolding record_table_of after_request_payload with_request_payload is_request is_new_product are_apart request_payload_in request_payload_by product_in request_in text_ref_at text_ref_by ref_by_number_at ref_in_full_at name_at text_at counted_at many_at
 alone = refl
 
 -- a.vhd over itself
@@ -63,8 +63,8 @@ abbrev own_product : List ℕ
 own_product = 1 ∷ append (head 97) (1 ∷ 1 ∷ 0 ∷ 0 ∷ 0 ∷ 120 ∷ 1 ∷ 0 ∷ 0 ∷ 0 ∷ 0 ∷ 0 ∷ 0 ∷ 0 ∷ 0 ∷ 0 ∷ 0 ∷ 0 ∷ 0 ∷ 0 ∷ 0 ∷ 0 ∷ 0 ∷ 0 ∷ 0 ∷ 0 ∷ 0 ∷ [])
 
 -- a file isn't below itself
-pub below_itself : (request_shelf_of (product ∷ own_product ∷ [])).records ≡ []
-unfolding request_shelf_of after_request_payload with_request_payload is_request is_new_product are_apart request_payload_in request_payload_by product_in request_in text_ref_at text_ref_by ref_by_number_at ref_in_full_at name_at text_at counted_at many_at
+pub below_itself : (record_table_of (product ∷ own_product ∷ [])).records ≡ []
+unfolding record_table_of after_request_payload with_request_payload is_request is_new_product are_apart request_payload_in request_payload_by product_in request_in text_ref_at text_ref_by ref_by_number_at ref_in_full_at name_at text_at counted_at many_at
 below_itself = refl
 
 -- the second payload is spelled so
@@ -74,7 +74,7 @@ spelled = refl
 
 -- compaction of two records that are the latest gives the two payloads
 pub compacted_both : compacted_requests (asked 97 [] 121 ∷ asked 98 (built 97 121 ∷ []) 122 ∷ []) ≡ first ∷ second ∷ []
-unfolding compacted_requests carried_from carry_request carry_own carry_product latest_requests request_payload_bytes request_draft_bytes command_bytes text_ref_bytes product_numbers_bytes name_bytes text_bytes
+unfolding compacted_requests compacted_from compact_request compact_own compact_product latest_requests request_payload_bytes request_draft_bytes command_bytes text_ref_bytes product_numbers_bytes name_bytes text_bytes
 compacted_both = refl
 
 -- a.vhd with the text w and the artefact v
@@ -91,5 +91,5 @@ over_earlier = 1 ∷ append (head 98) (1 ∷ 1 ∷ 0 ∷ 0 ∷ 0 ∷ 120 ∷ 1 �
 
 -- where the first file was recorded anew, the product that the second one stands over is written alone, before it
 pub compacted_later : compacted_requests (asked 97 [] 121 ∷ asked 98 (built 97 121 ∷ []) 122 ∷ later ∷ []) ≡ product ∷ over_earlier ∷ later_bytes ∷ []
-unfolding compacted_requests carried_from carry_request carry_own carry_product latest_requests request_payload_bytes request_draft_bytes product_draft_bytes command_bytes text_ref_bytes product_numbers_bytes name_bytes text_bytes
+unfolding compacted_requests compacted_from compact_request compact_own compact_product latest_requests request_payload_bytes request_draft_bytes product_draft_bytes command_bytes text_ref_bytes product_numbers_bytes name_bytes text_bytes
 compacted_later = refl

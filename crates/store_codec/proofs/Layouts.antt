@@ -9,10 +9,10 @@ use Rattle.base.specs.Jobs.{name_bytes}
 use Rattle.base_bytes.specs.Reading.{counted_at, number_at, text_at}
 use Rattle.base_bytes.proofs.Fields.{text_again, u64_again}
 use Rattle.base_bytes.proofs.Many.{by_recursion, counted_again}
-use Rattle.base_ranges.specs.declared.ranges.ByteRange.{ByteRange}
-use Rattle.base_ranges.specs.declared.text_refs.TextRange.{TextRange}
-use Rattle.base_ranges.specs.Ranges.{counted_numbers, counted_words, ranged}
-use Rattle.base_ranges.specs.TextRefs.{TextRef, ref_in_range}
+use Rattle.base_bytes.specs.declared.ranges.ByteRange.{ByteRange}
+use Rattle.base_bytes.specs.declared.text_refs.TextRange.{TextRange}
+use Rattle.base_bytes.specs.Ranges.{counted_numbers, counted_words, ranged}
+use Rattle.base_bytes.specs.TextRefs.{TextRef, ref_in_range}
 use Rattle.store_codec.specs.declared.layout.RequestLayout.{RequestLayout}
 use Rattle.store_codec.specs.Forms.{HasRequestSpelling, RequestDraft, command_bytes, product_numbers_bytes, request_draft_bytes, request_payload_bytes, text_ref_bytes}
 use Rattle.store_codec.specs.Layouts.{IsLayout}

@@ -10,10 +10,10 @@ use Rattle.std.proofs.lemmas.List.Quantifiers.{all_pairs_push}
 use Rattle.std.proofs.lemmas.Slice.Eq.{bytes_eq-Decides}
 use Rattle.base.specs.declared.graph.BuiltFile.{BuiltFile}
 use Rattle.store_codec.specs.Forms.{IsSpellable, ProductDraft, RequestDraft, RequestPayload, request_payload_bytes, request_payload_in}
-use Rattle.base_ranges.specs.TextRefs.{TextRef, is_text_ref, with_text}
-use Rattle.base_ranges.specs.TextRefs.TextRef.{ByNumber, InFull}
+use Rattle.base_bytes.specs.TextRefs.{TextRef, is_text_ref, with_text}
+use Rattle.base_bytes.specs.TextRefs.TextRef.{ByNumber, InFull}
 use Rattle.store_codec.specs.Forms.RequestPayload.{OfProduct, OfRequest}
-use Rattle.store_codec.specs.Shelves.{AreNumberedOnce, IsNewProduct, IsRequest, RequestShelf, after_request_payload, bare_shelf, drafted_product, is_new_product, is_request, is_same_built, request_shelf_of, with_built, with_product, with_request, with_request_payload}
+use Rattle.store_codec.specs.RecordTables.{AreNumberedOnce, IsNewProduct, IsRequest, RecordTable, after_request_payload, bare_table, drafted_product, is_new_product, is_request, is_same_built, record_table_of, with_built, with_product, with_request, with_request_payload}
 use Rattle.store_codec.proofs.Deciding.{new_product-Decides, request-Decides, same_built-Decides}
 use Rattle.store_codec.proofs.Spelling.{payload_again}
 
@@ -40,52 +40,52 @@ built_once products product once = by (list_any (is_same_built product) products
     by true e = once
     by false e = once_more is_same_built same_built-Decides products product once e
 
-pub once_with_request : (shelf : RequestShelf) (draft : RequestDraft) → AreNumberedOnce shelf → IsRequest shelf draft → AreNumberedOnce (with_request shelf draft)
-once_with_request shelf draft once is = record {
-  texts = text_once (with_text shelf.texts draft.source) draft.artefact (text_once shelf.texts draft.source once.texts is.source) is.artefact;
-  products = built_once shelf.products _ once.products;
+pub once_with_request : (table : RecordTable) (draft : RequestDraft) → AreNumberedOnce table → IsRequest table draft → AreNumberedOnce (with_request table draft)
+once_with_request table draft once is = record {
+  texts = text_once (with_text table.texts draft.source) draft.artefact (text_once table.texts draft.source once.texts is.source) is.artefact;
+  products = built_once table.products _ once.products;
 }
 
-pub once_with_product : (shelf : RequestShelf) (draft : ProductDraft) → AreNumberedOnce shelf → IsNewProduct shelf draft → AreNumberedOnce (with_product shelf draft)
-once_with_product shelf draft once is = record {
-  texts = text_once shelf.texts draft.artefact once.texts is.artefact;
-  products = once_more is_same_built same_built-Decides shelf.products (drafted_product shelf.texts draft) once.products is.new;
+pub once_with_product : (table : RecordTable) (draft : ProductDraft) → AreNumberedOnce table → IsNewProduct table draft → AreNumberedOnce (with_product table draft)
+once_with_product table draft once is = record {
+  texts = text_once table.texts draft.artefact once.texts is.artefact;
+  products = once_more is_same_built same_built-Decides table.products (drafted_product table.texts draft) once.products is.new;
 }
 
--- what drafts keep of a shelf holds of the shelf of any payloads, if it does of the bare one
-module _ (P : RequestShelf → Type 0) (product : (shelf : RequestShelf) (draft : ProductDraft) → P shelf → IsNewProduct shelf draft → P (with_product shelf draft)) (request : (shelf : RequestShelf) (draft : RequestDraft) → P shelf → IsRequest shelf draft → P (with_request shelf draft)) where
-  by_test : (test : Bool) (x y : RequestShelf) → (test ≡ true → P x) → P y → P (if test then x else y)
+-- what drafts keep of a table holds of the table of any payloads, if it does of the bare one
+module _ (P : RecordTable → Type 0) (product : (table : RecordTable) (draft : ProductDraft) → P table → IsNewProduct table draft → P (with_product table draft)) (request : (table : RecordTable) (draft : RequestDraft) → P table → IsRequest table draft → P (with_request table draft)) where
+  by_test : (test : Bool) (x y : RecordTable) → (test ≡ true → P x) → P y → P (if test then x else y)
   by_test true x y one two = one refl
   by_test false x y one two = two
 
-  by_payload : (shelf : RequestShelf) (payload : RequestPayload) → P shelf → P (with_request_payload shelf payload)
+  by_payload : (table : RecordTable) (payload : RequestPayload) → P table → P (with_request_payload table payload)
   unfolding with_request_payload
-  by_payload shelf (OfProduct draft) is = by_test (is_new_product shelf draft) (with_product shelf draft) shelf (λ e. product shelf draft is ((new_product-Decides shelf draft).0 e)) is
-  by_payload shelf (OfRequest draft) is = by_test (is_request shelf draft) (with_request shelf draft) shelf (λ e. request shelf draft is ((request-Decides shelf draft).0 e)) is
+  by_payload table (OfProduct draft) is = by_test (is_new_product table draft) (with_product table draft) table (λ e. product table draft is ((new_product-Decides table draft).0 e)) is
+  by_payload table (OfRequest draft) is = by_test (is_request table draft) (with_request table draft) table (λ e. request table draft is ((request-Decides table draft).0 e)) is
 
-  by_found : (shelf : RequestShelf) (found : Option RequestPayload) → P shelf → P (option_map_or (with_request_payload shelf) found shelf)
-  by_found shelf None is = is
-  by_found shelf (Some payload) is = by_payload shelf payload is
+  by_found : (table : RecordTable) (found : Option RequestPayload) → P table → P (option_map_or (with_request_payload table) found table)
+  by_found table None is = is
+  by_found table (Some payload) is = by_payload table payload is
 
-  by_bytes : (shelf : RequestShelf) (bytes : List ℕ) → P shelf → P (after_request_payload shelf bytes)
+  by_bytes : (table : RecordTable) (bytes : List ℕ) → P table → P (after_request_payload table bytes)
   unfolding after_request_payload
-  by_bytes shelf bytes is = by_found shelf (request_payload_in bytes) is
+  by_bytes table bytes is = by_found table (request_payload_in bytes) is
 
-  by_each : (shelf : RequestShelf) (payloads : List (List ℕ)) → P shelf → P (fold after_request_payload shelf payloads)
-  by_each shelf [] is = is
-  by_each shelf (payload ∷ payloads) is = by_each (after_request_payload shelf payload) payloads (by_bytes shelf payload is)
+  by_each : (table : RecordTable) (payloads : List (List ℕ)) → P table → P (fold after_request_payload table payloads)
+  by_each table [] is = is
+  by_each table (payload ∷ payloads) is = by_each (after_request_payload table payload) payloads (by_bytes table payload is)
 
-  pub by_payloads : P bare_shelf → (payloads : List (List ℕ)) → P (request_shelf_of payloads)
-  unfolding request_shelf_of
-  by_payloads bare payloads = by_each bare_shelf payloads bare
+  pub by_payloads : P bare_table → (payloads : List (List ℕ)) → P (record_table_of payloads)
+  unfolding record_table_of
+  by_payloads bare payloads = by_each bare_table payloads bare
 
-pub once_in_all : (payloads : List (List ℕ)) → AreNumberedOnce (request_shelf_of payloads)
+pub once_in_all : (payloads : List (List ℕ)) → AreNumberedOnce (record_table_of payloads)
 once_in_all = by_payloads AreNumberedOnce once_with_product once_with_request (record { texts = λ i j d a b. absurd (omega arith); products = λ i j d a b. absurd (omega arith) })
 
-pub adds_request : (shelf : RequestShelf) (draft : RequestDraft) → IsRequest shelf draft → IsSpellable (OfRequest draft) → after_request_payload shelf (request_payload_bytes (OfRequest draft)) ≡ with_request shelf draft
+pub adds_request : (table : RecordTable) (draft : RequestDraft) → IsRequest table draft → IsSpellable (OfRequest draft) → after_request_payload table (request_payload_bytes (OfRequest draft)) ≡ with_request table draft
 unfolding after_request_payload with_request_payload
-adds_request shelf draft is spelled = rw (payload_again (OfRequest draft) spelled, (request-Decides shelf draft).1 is) refl
+adds_request table draft is spelled = rw (payload_again (OfRequest draft) spelled, (request-Decides table draft).1 is) refl
 
-pub adds_product : (shelf : RequestShelf) (draft : ProductDraft) → IsNewProduct shelf draft → IsSpellable (OfProduct draft) → after_request_payload shelf (request_payload_bytes (OfProduct draft)) ≡ with_product shelf draft
+pub adds_product : (table : RecordTable) (draft : ProductDraft) → IsNewProduct table draft → IsSpellable (OfProduct draft) → after_request_payload table (request_payload_bytes (OfProduct draft)) ≡ with_product table draft
 unfolding after_request_payload with_request_payload
-adds_product shelf draft is spelled = rw (payload_again (OfProduct draft) spelled, (new_product-Decides shelf draft).1 is) refl
+adds_product table draft is spelled = rw (payload_again (OfProduct draft) spelled, (new_product-Decides table draft).1 is) refl

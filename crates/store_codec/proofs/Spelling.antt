@@ -10,13 +10,13 @@ use Rattle.base.specs.Jobs.{name_bytes}
 use Rattle.base_bytes.specs.Reading.{◌>>=◌, AreBytes, Takes, counted_at, number_at, text_at}
 use Rattle.base_bytes.specs.Names.{name_at}
 use Rattle.base_bytes.proofs.Fields.{Takes-then, bind_some, ends_there, guard_ended, text_again, text_takes, u64_again, u64_takes}
-use Rattle.base_bytes.proofs.Many.{by_place, by_recursion, counted_again, counted_take}
+use Rattle.base_bytes.proofs.Many.{by_index, by_recursion, counted_again, counted_take}
 use Rattle.base_bytes.proofs.NameFields.{name_again, name_takes}
 use Rattle.store_codec.specs.Forms.{HasProductSpelling, HasRefSpelling, HasRequestSpelling, IsSpellable, ProductDraft, RequestDraft, RequestPayload, command_bytes, product_draft_bytes, product_in, product_numbers_bytes, request_draft_bytes, request_in, request_payload_by, request_payload_bytes, request_payload_in, text_ref_bytes}
-use Rattle.base_ranges.specs.TextRefs.{TextRef, ref_by_number_at, ref_in_full_at, text_ref_at, text_ref_by}
-use Rattle.base_ranges.specs.Ranges.{read_whole, byte_at}
+use Rattle.base_bytes.specs.TextRefs.{TextRef, ref_by_number_at, ref_in_full_at, text_ref_at, text_ref_by}
+use Rattle.base_bytes.specs.Ranges.{read_whole, byte_at}
 use Rattle.store_codec.specs.Forms.RequestPayload.{OfProduct, OfRequest}
-use Rattle.base_ranges.specs.TextRefs.TextRef.{ByNumber, InFull}
+use Rattle.base_bytes.specs.TextRefs.TextRef.{ByNumber, InFull}
 
 abbrev TextFits : List ℕ → Type 0
 TextFits text = length text < 2 ^ 32
@@ -110,7 +110,7 @@ request_takes bytes payload fits e =
     let e04 = Takes-then bytes (name_bytes a.0.0) a.0.1 (command_bytes b.0.0 ++ (text_ref_bytes c.0.0 ++ (product_numbers_bytes d.0.0 ++ text_ref_bytes f.0.0))) f.0.1 t0.0 e14 in
     let whole = ends_there bytes (name_bytes a.0.0 ++ (command_bytes b.0.0 ++ (text_ref_bytes c.0.0 ++ (product_numbers_bytes d.0.0 ++ text_ref_bytes f.0.0)))) f.0.1 e04 g.0 in
     subst (λ (p : RequestPayload). IsSpelledBy (1 ∷ bytes) p) g.1
-    (ap (λ (bs : List ℕ). 1 ∷ bs) whole, record { name = t0.1; count = t1.1; words = by_place TextFits b.0.0 t1.2; source = t2.1; few = t3.1; deps = by_place NumberFits d.0.0 t3.2; artefact = t4.1 })
+    (ap (λ (bs : List ℕ). 1 ∷ bs) whole, record { name = t0.1; count = t1.1; words = by_index TextFits b.0.0 t1.2; source = t2.1; few = t3.1; deps = by_index NumberFits d.0.0 t3.2; artefact = t4.1 })
 
 payload_by_takes : (tag : ℕ) (bytes : List ℕ) (payload : RequestPayload) → AreBytes bytes → request_payload_by tag bytes ≡ Some payload → IsSpelledBy (tag ∷ bytes) payload
 unfolding request_payload_by

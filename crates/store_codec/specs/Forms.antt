@@ -7,9 +7,9 @@ use Rattle.base.specs.Bytes.{number_bytes, text_bytes}
 use Rattle.base.specs.Jobs.{name_bytes}
 use Rattle.base_bytes.specs.Reading.{◌>>=◌, number_at, text_at, counted_at}
 use Rattle.base_bytes.specs.Names.{HasNameSpelling, name_at}
-use Rattle.base_ranges.specs.Ranges.{byte_at, read_whole}
-use Rattle.base_ranges.specs.TextRefs.{TextRef, text_ref_at}
-use Rattle.base_ranges.specs.TextRefs.TextRef.{ByNumber, InFull}
+use Rattle.base_bytes.specs.Ranges.{byte_at, read_whole}
+use Rattle.base_bytes.specs.TextRefs.{TextRef, text_ref_at}
+use Rattle.base_bytes.specs.TextRefs.TextRef.{ByNumber, InFull}
 
 -- the number that sides with payloads of requests have as their form
 abbrev pub request_form : ℕ

@@ -1,7 +1,7 @@
 -- The definitions.
 pub mod Forms
-pub mod Shelves
+pub mod RecordTables
 pub mod Ranges
 pub mod Writing
-pub mod Carrying
+pub mod Compaction
 pub mod Layouts

@@ -4,8 +4,8 @@ use Rattle.store_codec.specs.declared.reading.ProductRanges.{ProductRanges}
 use Rattle.store_codec.specs.declared.reading.RequestRanges.{RequestRanges}
 use Rattle.store_codec.specs.declared.reading.PayloadRanges.{PayloadRanges}
 use Rattle.store_codec.specs.declared.reading.PayloadRanges.TheVariants as ranges
-use Rattle.base_ranges.specs.Ranges.{counted_numbers, counted_words, ranged}
-use Rattle.base_ranges.specs.TextRefs.{ref_in_range}
+use Rattle.base_bytes.specs.Ranges.{counted_numbers, counted_words, ranged}
+use Rattle.base_bytes.specs.TextRefs.{ref_in_range}
 use Rattle.store_codec.specs.Forms.{ProductDraft, RequestDraft, RequestPayload}
 use Rattle.store_codec.specs.Forms.RequestPayload.{OfProduct, OfRequest}
 

@@ -6,8 +6,8 @@ use Rattle.store_codec.specs.declared.writing.TextPart.{TextPart}
 use Rattle.store_codec.specs.declared.writing.ProductParts.{ProductParts}
 use Rattle.store_codec.specs.declared.writing.RequestParts.{RequestParts}
 use Rattle.store_codec.specs.Forms.{ProductDraft, RequestDraft}
-use Rattle.base_ranges.specs.TextRefs.{TextRef}
-use Rattle.base_ranges.specs.TextRefs.TextRef.{ByNumber, InFull}
+use Rattle.base_bytes.specs.TextRefs.{TextRef}
+use Rattle.base_bytes.specs.TextRefs.TextRef.{ByNumber, InFull}
 
 -- a text that has a number, or a new one
 abbrev pub ref_or : Option ℕ → List ℕ → TextRef

@@ -4,7 +4,7 @@ ghost use Rattle.std.specs.Prelude.{◌≡◌, ◌↔◌, ℕ, List, Some, true}
 ghost use Rattle.base_bytes.specs.Reading.{AreBytes};
 ghost use Rattle.store_codec.specs.Forms.{ProductDraft, RequestDraft, RequestPayload, IsSpellable, request_payload_bytes, request_payload_in};
 ghost use Rattle.store_codec.specs.Forms.RequestPayload.{OfProduct, OfRequest};
-ghost use Rattle.store_codec.specs.Shelves.{AreNumberedOnce, IsNewProduct, IsRequest, RequestShelf, after_request_payload, is_new_product, is_request, request_shelf_of, with_product, with_request};
+ghost use Rattle.store_codec.specs.RecordTables.{AreNumberedOnce, IsNewProduct, IsRequest, RecordTable, after_request_payload, is_new_product, is_request, record_table_of, with_product, with_request};
 
 /// What holds of the bytes of payloads, whoever writes or reads them.
 pub fn laws_of_request_payloads()
@@ -18,23 +18,23 @@ pub fn laws_of_request_payloads()
 {}
 
 /// What holds of the texts, products and records that payloads stand for.
-pub fn laws_of_request_shelves()
+pub fn laws_of_record_tables()
     // Whatever the payloads, no text and no product has two numbers.
-    ensures once { (payloads : List (List ℕ)) → AreNumberedOnce (request_shelf_of payloads) }
+    ensures once { (payloads : List (List ℕ)) → AreNumberedOnce (record_table_of payloads) }
     // A draft is one of a record exactly where it has all that one has,
-    ensures request { (shelf : RequestShelf) (draft : RequestDraft) →
-        (is_request shelf draft ≡ true) ↔ IsRequest shelf draft }
+    ensures request { (table : RecordTable) (draft : RequestDraft) →
+        (is_request table draft ≡ true) ↔ IsRequest table draft }
     // and one of a new product likewise.
-    ensures product { (shelf : RequestShelf) (draft : ProductDraft) →
-        (is_new_product shelf draft ≡ true) ↔ IsNewProduct shelf draft }
+    ensures product { (table : RecordTable) (draft : ProductDraft) →
+        (is_new_product table draft ≡ true) ↔ IsNewProduct table draft }
     // The payload of such a record adds it, with its texts and its product where these aren't there;
-    ensures adds { (shelf : RequestShelf) (draft : RequestDraft) → IsRequest shelf draft →
+    ensures adds { (table : RecordTable) (draft : RequestDraft) → IsRequest table draft →
         IsSpellable (OfRequest draft) →
-        after_request_payload shelf (request_payload_bytes (OfRequest draft))
-        ≡ with_request shelf draft }
+        after_request_payload table (request_payload_bytes (OfRequest draft))
+        ≡ with_request table draft }
     // that of a new product adds it, and no record.
-    ensures adds_product { (shelf : RequestShelf) (draft : ProductDraft) →
-        IsNewProduct shelf draft → IsSpellable (OfProduct draft) →
-        after_request_payload shelf (request_payload_bytes (OfProduct draft))
-        ≡ with_product shelf draft }
+    ensures adds_product { (table : RecordTable) (draft : ProductDraft) →
+        IsNewProduct table draft → IsSpellable (OfProduct draft) →
+        after_request_payload table (request_payload_bytes (OfProduct draft))
+        ≡ with_product table draft }
 {}

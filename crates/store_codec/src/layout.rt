@@ -4,12 +4,12 @@ ghost use Rattle.std.specs.Prelude.{◌≡◌, ◌<◌, ◌^◌, ◌++◌, ℕ, 
 ghost use Rattle.store_codec.specs.Forms.{command_bytes, text_ref_bytes, IsSpellable, request_payload_bytes};
 ghost use Rattle.store_codec.specs.Forms.RequestPayload.{OfRequest};
 ghost use Rattle.store_codec.specs.Layouts.{IsLayout};
-ghost use Rattle.base_ranges.specs.TextRefs.{ref_in_range};
+ghost use Rattle.base_bytes.specs.TextRefs.{ref_in_range};
 ghost use Rattle.store_codec.specs.Writing.{HasRequestSizes, part_ref, request_of_parts};
 
 use crate::reading::RequestRanges;
 use crate::writing::{RequestParts, TextPart};
-use base_ranges::{ByteRange, TextRange};
+use base_bytes::{ByteRange, TextRange};
 
 /// Where the parts of a record stand in its payload, and the size of the payload.
 #[derive(Clone, Copy)]

@@ -7,7 +7,7 @@ mod layout;
 mod reading;
 mod writing;
 
-pub use laws::{laws_of_request_payloads, laws_of_request_shelves};
+pub use laws::{laws_of_record_tables, laws_of_request_payloads};
 pub use layout::{RequestLayout, request_layout};
 pub use reading::{PayloadRanges, ProductRanges, RequestRanges, read_request_payload};
 pub use writing::{

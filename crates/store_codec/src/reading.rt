@@ -5,7 +5,7 @@ ghost use Rattle.base_bytes.specs.Reading.{ReadsAll};
 ghost use Rattle.store_codec.specs.Forms.{product_in, request_in, request_payload_in};
 ghost use Rattle.store_codec.specs.Ranges.{payload_in_ranges};
 
-use base_ranges::{ByteRange, TextRange, numbers_range, ref_range, text_range, words_range};
+use base_bytes::{ByteRange, TextRange, numbers_range, ref_range, text_range, words_range};
 
 /// A product: its library and path, and its artefact.
 #[derive(Clone, Copy)]

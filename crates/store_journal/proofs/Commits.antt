@@ -7,20 +7,20 @@ use Rattle.outside.specs.declared.disk.Side.{Side}
 use Rattle.outside.specs.declared.disk.Side.TheVariants.{A, B}
 use Rattle.outside.specs.Disks.{AtAnyMoment, DiskState, EachImage, Image, IsEither, Moments, NeverLoses, image_side, on_side, overwritten, reads_of, settled_disk, writing, written_through}
 use Rattle.store_journal.specs.Payloads.{counting, generation_of, payloads}
-use Rattle.store_journal.specs.Journals.{HasClosedGateAt, JournalState, IsInStep, other_side}
+use Rattle.store_journal.specs.Journals.{HasClosedCommitByteAt, JournalState, IsInStep, other_side}
 use Rattle.store_journal.specs.Steps.{Went, committing, last_moment}
-use Rattle.store_journal.proofs.Gates.{Small, after_closed, gate_open, gate_shut, gate_there}
+use Rattle.store_journal.proofs.CommitBytes.{Small, after_closed, commit_byte_open, commit_byte_shut, commit_byte_there}
 use Rattle.store_journal.proofs.Kept.{SameHeader, counting_still, generation_still, payloads_of_side}
 use Rattle.store_journal.proofs.Settled.{settled_each, settled_image}
 use Rattle.store_journal.proofs.Spelled.{closed_ends, spelled_payloads}
 use Rattle.store_journal.proofs.Torn.{IsTorn, IsTornImage, overwritten_torn, torn_prefix, torn_image}
 use Rattle.store_journal.proofs.Went.{HandsOn, went_loses, went_moments}
 
--- this side counts, with this generation, and has these payloads up to this closed gate
+-- this side counts, with this generation, and has these payloads up to this closed commit byte
 pub record Holds (form : ℕ) (side : Side) (generation len : ℕ) (list : List (List ℕ)) (image : Image) : Type 0 where
   pub counts : counting form image ≡ Some side
   pub generation_is : generation_of (image_side side image) ≡ generation
-  pub closed : HasClosedGateAt len list (image_side side image)
+  pub closed : HasClosedCommitByteAt len list (image_side side image)
 
 pub holds_payloads : (form : ℕ) (side : Side) (generation len : ℕ) (list : List (List ℕ)) (image : Image) → Holds form side generation len list image → payloads form image ≡ list
 holds_payloads form side generation len list image holds =
@@ -36,21 +36,21 @@ holds_in_step journal list image holds =
       settled = refl;
       counts = holds.counts;
       generation = holds.generation_is;
-      closed = subst (λ (l : List (List ℕ)). HasClosedGateAt journal.len l (image_side journal.live image)) (sym is) holds.closed;
+      closed = subst (λ (l : List (List ℕ)). HasClosedCommitByteAt journal.len l (image_side journal.live image)) (sym is) holds.closed;
     }
 
--- a torn write from the closed gate on, or after it, keeps the header
-torn_header : (len at count : ℕ) (list : List (List ℕ)) (old new : List ℕ) → HasClosedGateAt len list old → IsTorn at count old new → len - 1 ≤ at → SameHeader old new
+-- a torn write from the closed commit byte on, or after it, keeps the header
+torn_header : (len at count : ℕ) (list : List (List ℕ)) (old new : List ℕ) → HasClosedCommitByteAt len list old → IsTorn at count old new → len - 1 ≤ at → SameHeader old new
 torn_header len at count list old new closed torn late =
-    let there = gate_there len list old closed.spelled in
+    let there = commit_byte_there len list old closed.spelled in
     record {
       there = omega (arith, there.0, there.1);
       stays = omega (arith, there.0, there.1, torn.no_shorter);
       same = torn_prefix 18 at count old new torn (omega (arith, there.0)) (omega (arith, there.0, there.1));
     }
 
--- what a torn write after the header keeps, where its gate is closed
-torn_holds : (form : ℕ) (side : Side) (generation len at count after : ℕ) (list new_list : List (List ℕ)) (old new : Image) → Holds form side generation len list old → IsTornImage side at count old new → len - 1 ≤ at → HasClosedGateAt after new_list (image_side side new) → Holds form side generation after new_list new
+-- what a torn write after the header keeps, where its commit byte is closed
+torn_holds : (form : ℕ) (side : Side) (generation len at count after : ℕ) (list new_list : List (List ℕ)) (old new : Image) → Holds form side generation len list old → IsTornImage side at count old new → len - 1 ≤ at → HasClosedCommitByteAt after new_list (image_side side new) → Holds form side generation after new_list new
 torn_holds form side generation len at count after list new_list old new holds torn late closed =
     let header = torn_header len at count list (image_side side old) (image_side side new) holds.closed torn.torn late in
     record {
@@ -59,7 +59,7 @@ torn_holds form side generation len at count after list new_list old new holds t
       closed = closed;
     }
 
--- while bytes after the closed gate are written, and after, the payloads are those from before
+-- while bytes after the closed commit byte are written, and after, the payloads are those from before
 pub after_holds : (form : ℕ) (side : Side) (generation len count : ℕ) (list : List (List ℕ)) (old new : Image) → Holds form side generation len list old → IsTornImage side len count old new → Holds form side generation len list new
 after_holds form side generation len count list old new holds torn =
     torn_holds form side generation len len count len list list old new holds torn (omega arith) (after_closed len count list (image_side side old) (image_side side new) holds.closed torn.torn)
@@ -104,11 +104,11 @@ at_write side at byte image within =
     let old = image_side side image in
     ap (λ (l : List ℕ). get_or l at 0) (bytes_put side (overwritten at (byte ∷ []) old) image) ∙ get_or_at (take at old) byte (drop (at + 1) old) 0 at (length-take-le at old within)
 
--- what is written after the closed gate: a payload, and a closed gate
+-- what is written after the closed commit byte: a payload, and a closed commit byte
 abbrev pub after_bytes : List ℕ → List ℕ
 after_bytes payload = text_bytes payload ++ 0 ∷ []
 
--- the payload comes after the closed gate
+-- the payload comes after the closed commit byte
 pub record HoldsMore (form : ℕ) (side : Side) (generation len : ℕ) (list : List (List ℕ)) (payload : List ℕ) (image : Image) : Type 0 where
   pub holds : Holds form side generation len list image
   pub small : Small payload
@@ -118,7 +118,7 @@ pub record HoldsMore (form : ℕ) (side : Side) (generation len : ℕ) (list : L
 -- after the first write
 pub written_after : (form : ℕ) (side : Side) (generation len : ℕ) (list : List (List ℕ)) (payload : List ℕ) (image : Image) → Holds form side generation len list image → Small payload → HoldsMore form side generation len list payload (after_write side len (after_bytes payload) image)
 written_after form side generation len list payload image holds small =
-    let there = gate_there len list (image_side side image) holds.closed.spelled in
+    let there = commit_byte_there len list (image_side side image) holds.closed.spelled in
     let rest = drop (len + length (after_bytes payload)) (image_side side image) in
     record {
       holds = after_holds form side generation len (length (after_bytes payload)) list image (after_write side len (after_bytes payload) image) holds (write_torn side len (after_bytes payload) image there.1);
@@ -127,24 +127,24 @@ written_after form side generation len list payload image holds small =
       after = past_write side len (after_bytes payload) image there.1 ∙ append_assoc (text_bytes payload) (0 ∷ []) rest;
     }
 
--- once the gate is open, the payload is one of the others
+-- once the commit byte is open, the payload is one of the others
 pub opened_holds : (form : ℕ) (side : Side) (generation len : ℕ) (list : List (List ℕ)) (payload : List ℕ) (old new : Image) → HoldsMore form side generation len list payload old → IsTornImage side (len - 1) 1 old new → get_or (image_side side new) (len - 1) 0 ≡ 1 → Holds form side generation (len + length (after_bytes payload)) (list ++ payload ∷ []) new
 opened_holds form side generation len list payload old new more torn one =
     torn_holds form side generation len (len - 1) 1 (len + length (after_bytes payload)) list (list ++ payload ∷ []) old new more.holds torn (omega arith)
-    (gate_open len list payload (image_side side old) (image_side side new) more.rest more.holds.closed more.small more.after torn.torn one)
+    (commit_byte_open len list payload (image_side side old) (image_side side new) more.rest more.holds.closed more.small more.after torn.torn one)
 
--- while the gate alone is written, the side counts
-pub gate_counts : (form : ℕ) (side : Side) (generation len : ℕ) (list : List (List ℕ)) (payload : List ℕ) (old new : Image) → HoldsMore form side generation len list payload old → IsTornImage side (len - 1) 1 old new → counting form new ≡ Some side
-gate_counts form side generation len list payload old new more torn =
+-- while the commit byte alone is written, the side counts
+pub commit_byte_counts : (form : ℕ) (side : Side) (generation len : ℕ) (list : List (List ℕ)) (payload : List ℕ) (old new : Image) → HoldsMore form side generation len list payload old → IsTornImage side (len - 1) 1 old new → counting form new ≡ Some side
+commit_byte_counts form side generation len list payload old new more torn =
     let header = torn_header len (len - 1) 1 list (image_side side old) (image_side side new) more.holds.closed torn.torn (omega arith) in
     counting_still form side old new header torn.other ∙ more.holds.counts
 
--- while the gate alone is written, the payloads are those from before, or with the new one
-pub gate_payloads : (form : ℕ) (side : Side) (generation len : ℕ) (list : List (List ℕ)) (payload : List ℕ) (old new : Image) → HoldsMore form side generation len list payload old → IsTornImage side (len - 1) 1 old new → IsEither (payloads form new) list (list ++ payload ∷ [])
-gate_payloads form side generation len list payload old new more torn =
+-- while the commit byte alone is written, the payloads are those from before, or with the new one
+pub commit_byte_payloads : (form : ℕ) (side : Side) (generation len : ℕ) (list : List (List ℕ)) (payload : List ℕ) (old new : Image) → HoldsMore form side generation len list payload old → IsTornImage side (len - 1) 1 old new → IsEither (payloads form new) list (list ++ payload ∷ [])
+commit_byte_payloads form side generation len list payload old new more torn =
     elim (cases_eq (get_or (image_side side new) (len - 1) 0) 1) [
       | inl one ↦ inr (holds_payloads form side generation (len + length (after_bytes payload)) (list ++ payload ∷ []) new (opened_holds form side generation len list payload old new more torn one))
-      | inr shut ↦ inl (holds_payloads form side generation len list new (torn_holds form side generation len (len - 1) 1 len list list old new more.holds torn (omega arith) (gate_shut len list (image_side side old) (image_side side new) more.holds.closed torn.torn shut)))
+      | inr shut ↦ inl (holds_payloads form side generation len list new (torn_holds form side generation len (len - 1) 1 len list list old new more.holds torn (omega arith) (commit_byte_shut len list (image_side side old) (image_side side new) more.holds.closed torn.torn shut)))
     ]
 
 -- after both writes
@@ -155,7 +155,7 @@ pub committed_holds : (form : ℕ) (side : Side) (generation len : ℕ) (list : 
 committed_holds form side generation len list payload image holds small =
     let middle = after_write side len (after_bytes payload) image in
     let more = written_after form side generation len list payload image holds small in
-    let there = gate_there len list (image_side side middle) more.holds.closed.spelled in
+    let there = commit_byte_there len list (image_side side middle) more.holds.closed.spelled in
     opened_holds form side generation len list payload middle (committed_image side len payload image) more (write_torn side (len - 1) (1 ∷ []) middle (omega (arith, there.1))) (at_write side (len - 1) 1 middle (omega (arith, there.1)))
 
 pub committed_is : (side : Side) (len : ℕ) (payload : List ℕ) (image : Image) → last_moment (settled_disk image) (committing side len (after_bytes payload) (settled_disk image)) ≡ settled_disk (committed_image side len payload image)
@@ -178,7 +178,7 @@ commit_moments form side generation len list payload image old new holds small i
     inl (holds_payloads form side generation len list now (after_holds form side generation len (length (after_bytes payload)) list image now holds (torn_image side len (length (after_bytes payload)) image now torn))) in
     let more = written_after form side generation len list payload image holds small in
     let then : EachImage P (on_side side (writing (len - 1) 1) (settled_disk middle)) = λ now torn.
-    gate_payloads form side generation len list payload middle now more (torn_image side (len - 1) 1 middle now torn) in
+    commit_byte_payloads form side generation len list payload middle now more (torn_image side (len - 1) 1 middle now torn) in
     let second = subst (λ (disk : DiskState). EachImage P (on_side side (writing (len - 1) 1) disk)) (sym (write_settles side len (after_bytes payload) image)) then in
     went_moments (committing side len (after_bytes payload) (settled_disk image)) old new P went before (first, (second, tt))
 

@@ -7,7 +7,7 @@ use Rattle.std.proofs.lemmas.Slice.Eq.{bytes_eq-Decides}
 use Rattle.outside.specs.declared.disk.Side.{Side}
 use Rattle.outside.specs.declared.disk.Side.TheVariants.{A, B}
 use Rattle.outside.specs.Disks.{Image, image_side}
-use Rattle.store_journal.specs.Payloads.{mark, is_live, generation_of, counting, payloads, payloads_in}
+use Rattle.store_journal.specs.Payloads.{magic, is_live, generation_of, counting, payloads, payloads_in}
 use Rattle.store_journal.specs.Journals.{other_side}
 use Rattle.store_journal.proofs.Kept.{SameHeader, generation_still, live_long, live_still, payloads_of_side}
 
@@ -128,8 +128,8 @@ short_dead form bytes short =
 live_first : (form first : ℕ) (rest : List ℕ) → is_live form (first ∷ rest) ≡ true → first ≡ 1
 unfolding is_live
 live_first form first rest live =
-    let parts = and_parts (nat_le 19 (length (first ∷ rest))) (bytes_eq (take 10 (first ∷ rest)) (mark form)) live in
-    let same : take 10 (first ∷ rest) ≡ mark form = (bytes_eq-Decides (take 10 (first ∷ rest)) (mark form)).0 parts.1 in
+    let parts = and_parts (nat_le 19 (length (first ∷ rest))) (bytes_eq (take 10 (first ∷ rest)) (magic form)) live in
+    let same : take 10 (first ∷ rest) ≡ magic form = (bytes_eq-Decides (take 10 (first ∷ rest)) (magic form)).0 parts.1 in
     ap (λ (l : List ℕ). get_or l 0 0) same
 
 -- no bytes aren't live

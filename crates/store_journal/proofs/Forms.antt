@@ -8,7 +8,7 @@ use Rattle.outside.specs.declared.disk.Side.TheVariants.{A, B}
 use Rattle.outside.specs.Disks.{AtAnyMoment, DiskState, EachImage, Image, Moments, image_side, moments_since}
 use Rattle.store_journal.specs.Forms.{HoldsFormAs, has_form}
 use Rattle.store_journal.specs.Journals.{other_side}
-use Rattle.store_journal.specs.Payloads.{counting, is_live, mark, payloads, payloads_in}
+use Rattle.store_journal.specs.Payloads.{counting, is_live, magic, payloads, payloads_in}
 use Rattle.store_journal.proofs.Counting.{counting_live, counting_none, none_counts, only_counts, paired, payloads_none}
 use Rattle.store_journal.proofs.Kept.{SameHeader, counting_still, live_still, payloads_of_side}
 
@@ -63,15 +63,15 @@ not_both true never = absurd (never refl)
 not_both false never = refl
 
 -- what live bytes begin with
-live_mark : (form : ℕ) (bytes : List ℕ) → is_live form bytes ≡ true → take 10 bytes ≡ mark form
+live_magic : (form : ℕ) (bytes : List ℕ) → is_live form bytes ≡ true → take 10 bytes ≡ magic form
 unfolding is_live
-live_mark form bytes live = (bytes_eq-Decides (take 10 bytes) (mark form)).0 (and_parts (nat_le 19 (length bytes)) (bytes_eq (take 10 bytes) (mark form)) live).1
+live_magic form bytes live = (bytes_eq-Decides (take 10 bytes) (magic form)).0 (and_parts (nat_le 19 (length bytes)) (bytes_eq (take 10 bytes) (magic form)) live).1
 
 -- a side is live for one form at most
 pub other_form_dead : (form other : ℕ) (bytes : List ℕ) → other ≢ form → is_live form bytes ≡ true → is_live other bytes ≡ false
 other_form_dead form other bytes differs live = not_both (is_live other bytes) (λ too.
-    let marks : mark other ≡ mark form = sym (live_mark other bytes too) ∙ live_mark form bytes live in
-    let same : other ≡ form = ap (λ (l : List ℕ). get_or l 9 0) marks in
+    let magics : magic other ≡ magic form = sym (live_magic other bytes too) ∙ live_magic form bytes live in
+    let same : other ≡ form = ap (λ (l : List ℕ). get_or l 9 0) magics in
     differs same)
 
 -- a side whose header stays is live for the same forms

@@ -1,10 +1,10 @@
--- A payload between its length and a gate.
+-- A payload between its length and a commit byte.
 use Rattle.std.proofs.Common.{◌≡◌, ◌≤◌, ◌-◌, List, ℕ, [], ◌∷◌, ◌++◌, length, take, drop, refl, sym, ap, ◌∙◌, append_assoc, arith, length-append}
 use Rattle.std.proofs.lemmas.List.{take_at, drop_at}
 use Rattle.base.specs.Bytes.{number_bytes, text_bytes}
 use Rattle.store_journal.specs.Journals.{payload_within}
 
--- a payload with its length and a gate, taken out again
+-- a payload with its length and a commit byte, taken out again
 pub within : (payload : List ℕ) → payload_within (text_bytes payload ++ 0 ∷ []) ≡ payload
 unfolding text_bytes
 within payload =

@@ -9,16 +9,16 @@ use Rattle.std.proofs.lemmas.List.Elements.{All-from_get_or}
 use Rattle.std.proofs.lemmas.Option.{slice_get_within, unwrap_or-slice_get}
 use Rattle.base.specs.Bytes.{text_bytes}
 use Rattle.store_journal.specs.Payloads.{block, header, payloads_in, side_bytes}
-use Rattle.store_journal.specs.Journals.{HasClosedGateAt}
+use Rattle.store_journal.specs.Journals.{HasClosedCommitByteAt}
 use Rattle.store_journal.proofs.Spelled.{blocks-cons, closed_ends, spelled_payloads}
 
--- the bytes of a side end with a closed gate
-pub side_closed : (form generation : ℕ) (payloads : List (List ℕ)) → All (λ payload. length payload < 2 ^ 32) payloads → HasClosedGateAt (19 + length (flat_map block payloads)) payloads (side_bytes form generation payloads)
+-- the bytes of a side end with a closed commit byte
+pub side_closed : (form generation : ℕ) (payloads : List (List ℕ)) → All (λ payload. length payload < 2 ^ 32) payloads → HasClosedCommitByteAt (19 + length (flat_map block payloads)) payloads (side_bytes form generation payloads)
 unfolding side_bytes header
 side_closed form generation payloads small = record {
   spelled = record {
     head = header form generation;
-    gate = 0;
+    commit_byte = 0;
     rest = [];
     parts = refl;
     header = refl;

@@ -11,14 +11,14 @@ use Rattle.outside.specs.Disks.{Image, image_side}
 use Rattle.store_journal.specs.Payloads.{counting, generation_of, is_live, payloads, payloads_in}
 use Rattle.store_journal.specs.Journals.{other_side}
 
--- a live side has a first gate
+-- a live side has a first commit byte
 pub live_long : (form : ℕ) (bytes : List ℕ) → is_live form bytes ≡ true → 19 ≤ length bytes
 unfolding is_live
 live_long form bytes live =
     let long : nat_le 19 (length bytes) ≡ true = (and_parts _ _ live).0 in
     grind (arith, nat_tests)
 
--- the same header, and a gate after it
+-- the same header, and a commit byte after it
 pub record SameHeader (old new : List ℕ) : Type 0 where
   pub there : 19 ≤ length old
   pub stays : 19 ≤ length new

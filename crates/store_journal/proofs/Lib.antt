@@ -6,7 +6,7 @@ pub mod Went
 pub mod Settled
 pub mod Torn
 pub mod Kept
-pub mod Gates
+pub mod CommitBytes
 pub mod Commits
 pub mod Counting
 pub mod Runs

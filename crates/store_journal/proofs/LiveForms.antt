@@ -8,10 +8,10 @@ use Rattle.store_journal.specs.Journals.{IsInStep, JournalState, SideContent, ot
 use Rattle.store_journal.specs.Payloads.{counting, is_live, payloads}
 use Rattle.store_journal.specs.Steps.{Step, Went, committing, making}
 use Rattle.store_journal.proofs.Changing.{HasForm, making_each}
-use Rattle.store_journal.proofs.Commits.{Holds, after_bytes, after_holds, after_write, gate_counts, in_step_holds, write_settles, written_after}
+use Rattle.store_journal.proofs.Commits.{Holds, after_bytes, after_holds, after_write, commit_byte_counts, in_step_holds, write_settles, written_after}
 use Rattle.store_journal.proofs.Counting.{counting_live}
 use Rattle.store_journal.proofs.Forms.{counts_has_form, other_has_form}
-use Rattle.store_journal.proofs.Gates.{Small}
+use Rattle.store_journal.proofs.CommitBytes.{Small}
 use Rattle.store_journal.proofs.Replacing.{Replaces, other_is_live}
 use Rattle.store_journal.proofs.Settled.{settled_each}
 use Rattle.store_journal.proofs.Standing.{steps_are}
@@ -29,7 +29,7 @@ commit_stays form side generation len list payload image old new holds small is 
     live now (after_holds form side generation len (length (after_bytes payload)) list image now holds (torn_image side len (length (after_bytes payload)) image now torn)).counts in
     let more = written_after form side generation len list payload image holds small in
     let then : EachImage P (on_side side (writing (len - 1) 1) (settled_disk middle)) = λ now torn.
-    live now (gate_counts form side generation len list payload middle now more (torn_image side (len - 1) 1 middle now torn)) in
+    live now (commit_byte_counts form side generation len list payload middle now more (torn_image side (len - 1) 1 middle now torn)) in
     let second = subst (λ (disk : DiskState). EachImage P (on_side side (writing (len - 1) 1) disk)) (sym (write_settles side len (after_bytes payload) image)) then in
     went_moments (committing side len (after_bytes payload) (settled_disk image)) old new P went before (first, (second, tt))
 

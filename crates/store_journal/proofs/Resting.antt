@@ -8,7 +8,7 @@ use Rattle.outside.specs.Disks.{AtAnyMoment, DiskState, EachImage, Goes, Image, 
 use Rattle.outside.proofs.MomentLaws.{call_moments, goes_then, joined_moments}
 use Rattle.store_journal.specs.Payloads.{block, counting, payloads}
 use Rattle.store_journal.specs.Journals.{IsHealthy}
-use Rattle.store_journal.proofs.Gates.{gate_is}
+use Rattle.store_journal.proofs.CommitBytes.{commit_byte_is}
 use Rattle.store_journal.proofs.Openings.{Ends, ends_payloads}
 use Rattle.store_journal.proofs.Settled.{settled_each}
 
@@ -34,14 +34,14 @@ rests_then result old middle new goes same rests = record {
 pub healthy_then : (form : ℕ) (old middle : DiskState) → reads_of middle ≡ reads_of old → IsHealthy form (reads_of old) → IsHealthy form (reads_of middle)
 healthy_then form old middle same healthy = subst (IsHealthy form) (sym same) healthy
 
--- where the journal is healthy its last gate isn't open
+-- where the journal is healthy its last commit byte isn't open
 pub healthy_shut : (form : ℕ) (side : Side) (generation len : ℕ) (list : List (List ℕ)) (image : Image) → IsHealthy form image → Ends form side generation len list image → get_or (image_side side image) (len - 1) 0 ≢ 1
 healthy_shut form side generation len list image healthy ends one =
     let side_is : healthy.live ≡ side = cc (healthy.counts, ends.counts) in
     let list_is : payloads form image ≡ list = ends_payloads form side generation len list image ends in
     let count_is : healthy.count ≡ len = healthy.closed.spelled.count_is ∙ ap (λ (l : List (List ℕ)). 19 + length (flat_map block l)) list_is ∙ sym ends.ends.spelled.count_is in
-    let gate = gate_is healthy.count (payloads form image) (image_side healthy.live image) healthy.closed.spelled in
-    healthy.closed.closed (sym gate ∙ ap (λ (s : Side). get_or (image_side s image) (healthy.count - 1) 0) side_is ∙ ap (λ (n : ℕ). get_or (image_side side image) (n - 1) 0) count_is ∙ one)
+    let commit_byte = commit_byte_is healthy.count (payloads form image) (image_side healthy.live image) healthy.closed.spelled in
+    healthy.closed.closed (sym commit_byte ∙ ap (λ (s : Side). get_or (image_side s image) (healthy.count - 1) 0) side_is ∙ ap (λ (n : ℕ). get_or (image_side side image) (n - 1) 0) count_is ∙ one)
 
 -- and a side counts
 pub healthy_counts : (form : ℕ) (image : Image) → IsHealthy form image → counting form image ≢ None

@@ -13,7 +13,7 @@ use Rattle.store_journal.specs.Steps.{Step, Went, making}
 use Rattle.store_journal.proofs.Changing.{making_each}
 use Rattle.store_journal.proofs.Counting.{counting_live, counting_none, dead_prefix}
 use Rattle.store_journal.proofs.Forms.{both_moments, header_has_form, header_holds, no_form_counts, no_form_paired, no_form_payloads, other_form_dead}
-use Rattle.store_journal.proofs.Openings.{Ends, closing_ends, ends_payloads, gate_header}
+use Rattle.store_journal.proofs.Openings.{Ends, closing_ends, ends_payloads, commit_byte_header}
 use Rattle.store_journal.proofs.Settled.{settled_each, settled_image}
 use Rattle.store_journal.proofs.SideBytes.{side_live}
 use Rattle.store_journal.proofs.Standing.{steps_are}
@@ -43,10 +43,10 @@ read_holds_then old middle new goes same settled moments =
     let later = subst (λ (d : DiskState). AtAnyMoment middle new (HoldsSame (reads_of d))) same moments in
     joined_moments old middle new (HoldsSame (reads_of old.now)) (read_holds old middle goes settled) later
 
--- while a gate is closed after which no payload follows
-gate_holds : (form : ℕ) (side : Side) (generation len : ℕ) (list : List (List ℕ)) (old new : Image) (ends : Ends form side generation len list old) → get_or (image_side side old) (len - 1) 0 ≡ 1 → IsTornImage side (len - 1) 1 old new → HoldsSame old new
-gate_holds form side generation len list old new ends one torn other =
-    let header = gate_header len list (image_side side old) (image_side side new) ends.ends.spelled torn.torn in
+-- while a commit byte is closed after which no payload follows
+commit_byte_holds : (form : ℕ) (side : Side) (generation len : ℕ) (list : List (List ℕ)) (old new : Image) (ends : Ends form side generation len list old) → get_or (image_side side old) (len - 1) 0 ≡ 1 → IsTornImage side (len - 1) 1 old new → HoldsSame old new
+commit_byte_holds form side generation len list old new ends one torn other =
+    let header = commit_byte_header len list (image_side side old) (image_side side new) ends.ends.spelled torn.torn in
     let live = counting_live form old side ends.counts in
     let own : HoldsFormAs form old new = record {
       live = header_has_form form side old new header torn.other;
@@ -61,7 +61,7 @@ pub closing_holds : (form : ℕ) (side : Side) (generation len : ℕ) (list : Li
 closing_holds form side generation len list image old new ends one is goes =
     let P = HoldsSame image in
     let inside : EachImage P (on_side side (writing (len - 1) 1) (settled_disk image)) = λ now torn.
-    gate_holds form side generation len list image now ends one (torn_image side (len - 1) 1 image now torn) in
+    commit_byte_holds form side generation len list image now ends one (torn_image side (len - 1) 1 image now torn) in
     call_moments (on_side side (writing (len - 1) 1) old.now) old new P goes
     (subst (EachImage P) (sym is) (settled_each P image (same_image image)))
     (subst (λ (disk : DiskState). EachImage P (on_side side (writing (len - 1) 1) disk)) (sym is) inside)

@@ -16,7 +16,7 @@ use Rattle.outside.specs.Disks.{DiskState, bytes_at, image_side, reads_of, side_
 use Rattle.store_journal.specs.Payloads.{block, gated, payload_at}
 use Rattle.store_journal.specs.Journals.{EndsAt}
 use Rattle.store_journal.specs.Windows.{AreReadTo, IsCountOf, IsNextOf}
-use Rattle.store_journal.proofs.Spelled.{closed_gate}
+use Rattle.store_journal.proofs.Spelled.{closed_commit_byte}
 
 -- ## Windows
 
@@ -36,7 +36,7 @@ within_window reads bytes start at count is from to =
 pub first_within : (reads : List ℕ) (at : ℕ) → get_or (bytes_at at 1 reads) 0 0 ≡ get_or reads at 0
 first_within reads at = get_or-take 1 (drop at reads) 0 0 (omega arith) ∙ get_or-drop at reads 0 0 ∙ ap (λ (n : ℕ). get_or reads n 0) (omega arith)
 
--- ## What a gate opens
+-- ## What a commit byte opens
 
 taken_none : (count : ℕ) (left : List ℕ) → length left ≤ count → option_and_then gated (taken_at count left) ≡ None
 taken_none count left short =
@@ -47,7 +47,7 @@ taken_none count left short =
           rw (le-ltb (length left) count more, gone) refl
     ]
 
--- too few bytes for a number of four bytes and one more gate
+-- too few bytes for a number of four bytes and one more commit byte
 text_none : (rest : List ℕ) → length rest < 5 → option_and_then gated (text_at rest) ≡ None
 unfolding text_at
 text_none rest few =
@@ -61,27 +61,27 @@ text_none rest few =
 pub short_none : (bytes : List ℕ) → length bytes < 6 → payload_at bytes ≡ None
 unfolding payload_at
 short_none [] few = refl
-short_none (gate ∷ rest) few =
-    elim (cases_eq gate 1) [
-      | inl opened ↦ rw (eq-eqb gate 1 opened) (text_none rest (omega (arith, few)))
-      | inr closed ↦ closed_gate gate rest closed
+short_none (commit_byte ∷ rest) few =
+    elim (cases_eq commit_byte 1) [
+      | inl opened ↦ rw (eq-eqb commit_byte 1 opened) (text_none rest (omega (arith, few)))
+      | inr closed ↦ closed_commit_byte commit_byte rest closed
     ]
 
--- the gate and the number after it
-head_parts : (gate first count : ℕ) (rest : List ℕ) → take 5 (first ∷ rest) ≡ gate ∷ number_bytes count → (first ≡ gate) × (rest ≡ number_bytes count ++ drop 4 rest)
-head_parts gate first count rest is =
+-- the commit byte and the number after it
+head_parts : (commit_byte first count : ℕ) (rest : List ℕ) → take 5 (first ∷ rest) ≡ commit_byte ∷ number_bytes count → (first ≡ commit_byte) × (rest ≡ number_bytes count ++ drop 4 rest)
+head_parts commit_byte first count rest is =
     let same : take 4 rest ≡ number_bytes count = ap (drop 1) is in
     (ap (λ (l : List ℕ). get_or l 0 0) is, sym (take-append-drop 4 rest) ∙ ap (λ (l : List ℕ). l ++ drop 4 rest) same)
 
-pub closed_none : (bytes : List ℕ) (gate count : ℕ) → take 5 bytes ≡ gate ∷ number_bytes count → gate ≢ 1 → payload_at bytes ≡ None
-closed_none [] gate count is closed = absurd cc
-closed_none (first ∷ rest) gate count is closed = closed_gate first rest (λ one. closed (sym (head_parts gate first count rest is).0 ∙ one))
+pub closed_none : (bytes : List ℕ) (commit_byte count : ℕ) → take 5 bytes ≡ commit_byte ∷ number_bytes count → commit_byte ≢ 1 → payload_at bytes ≡ None
+closed_none [] commit_byte count is closed = absurd cc
+closed_none (first ∷ rest) commit_byte count is closed = closed_commit_byte first rest (λ one. closed (sym (head_parts commit_byte first count rest is).0 ∙ one))
 
-pub long_none : (bytes : List ℕ) (gate count : ℕ) → take 5 bytes ≡ gate ∷ number_bytes count → gate ≡ 1 → count < 2 ^ 32 → length bytes ≤ 5 + count → payload_at bytes ≡ None
+pub long_none : (bytes : List ℕ) (commit_byte count : ℕ) → take 5 bytes ≡ commit_byte ∷ number_bytes count → commit_byte ≡ 1 → count < 2 ^ 32 → length bytes ≤ 5 + count → payload_at bytes ≡ None
 unfolding payload_at text_at
-long_none [] gate count is opened small few = absurd cc
-long_none (first ∷ rest) gate count is opened small few =
-    let parts = head_parts gate first count rest is in
+long_none [] commit_byte count is opened small few = absurd cc
+long_none (first ∷ rest) commit_byte count is opened small few =
+    let parts = head_parts commit_byte first count rest is in
     let one : first ≡ 1 = parts.0 ∙ opened in
     let size : length rest ≡ 4 + length (drop 4 rest) = ap length parts.1 ∙ length-append (number_bytes count) (drop 4 rest) in
     let number : number_at w32 rest ≡ Some (count, drop 4 rest) = ap (number_at w32) parts.1 ∙ u32_again count (drop 4 rest) small in
@@ -108,10 +108,10 @@ read_begins_at bytes long = record {
   next = omega arith;
 }
 
-read_on : (bytes : List ℕ) (payloads : List (List ℕ)) (gate next : ℕ) (payload : List ℕ) → AreReadTo bytes payloads gate → IsNextOf (drop gate bytes) (Some payload) → length payload < 2 ^ 32 → next ≡ gate + 5 + length payload → next < length bytes → AreReadTo bytes (payloads ++ payload ∷ []) next
-read_on bytes payloads gate next payload so_far is small next_is within =
-    let left : drop (5 + length payload) (drop gate bytes) ≡ drop next bytes = drop-drop (5 + length payload) gate bytes ∙ ap (λ (n : ℕ). drop n bytes) (omega (arith, next_is)) in
-    let blocks : flat_map block payloads ++ drop gate bytes ≡ flat_map block (payloads ++ payload ∷ []) ++ drop next bytes =
+read_on : (bytes : List ℕ) (payloads : List (List ℕ)) (commit_byte next : ℕ) (payload : List ℕ) → AreReadTo bytes payloads commit_byte → IsNextOf (drop commit_byte bytes) (Some payload) → length payload < 2 ^ 32 → next ≡ commit_byte + 5 + length payload → next < length bytes → AreReadTo bytes (payloads ++ payload ∷ []) next
+read_on bytes payloads commit_byte next payload so_far is small next_is within =
+    let left : drop (5 + length payload) (drop commit_byte bytes) ≡ drop next bytes = drop-drop (5 + length payload) commit_byte bytes ∙ ap (λ (n : ℕ). drop n bytes) (omega (arith, next_is)) in
+    let blocks : flat_map block payloads ++ drop commit_byte bytes ≡ flat_map block (payloads ++ payload ∷ []) ++ drop next bytes =
     ap (λ (bs : List ℕ). flat_map block payloads ++ bs) (is ∙ ap (λ (l : List ℕ). block payload ++ l) left)
     ∙ sym (append_assoc (flat_map block payloads) (block payload) (drop next bytes))
     ∙ ap (λ (bs : List ℕ). bs ++ drop next bytes) (flat_map_more block [] payloads payload) in
@@ -124,25 +124,25 @@ read_on bytes payloads gate next payload so_far is small next_is within =
     }
 
 -- one payload more, of that number of bytes
-pub read_next : (bytes : List ℕ) (payloads : List (List ℕ)) (gate count : ℕ) → AreReadTo bytes payloads gate → take 5 (drop gate bytes) ≡ 1 ∷ number_bytes count → count < 2 ^ 32 → gate + 5 + count < length bytes → AreReadTo bytes (payloads ++ bytes_at (gate + 5) count bytes ∷ []) (gate + 5 + count)
-read_next bytes payloads gate count so_far head small within =
-    let payload : List ℕ = bytes_at (gate + 5) count bytes in
-    let size : length payload ≡ count = length-take-le count (drop (gate + 5) bytes) (omega (arith, length-drop (gate + 5) bytes, within)) in
-    let is : payload ≡ take count (drop 5 (drop gate bytes)) = ap (take count) (sym (drop-drop 5 gate bytes)) in
-    read_on bytes payloads gate (gate + 5 + count) payload so_far (next_is (drop gate bytes) payload count head is size) (omega (arith, size, small)) (omega (arith, size)) within
+pub read_next : (bytes : List ℕ) (payloads : List (List ℕ)) (commit_byte count : ℕ) → AreReadTo bytes payloads commit_byte → take 5 (drop commit_byte bytes) ≡ 1 ∷ number_bytes count → count < 2 ^ 32 → commit_byte + 5 + count < length bytes → AreReadTo bytes (payloads ++ bytes_at (commit_byte + 5) count bytes ∷ []) (commit_byte + 5 + count)
+read_next bytes payloads commit_byte count so_far head small within =
+    let payload : List ℕ = bytes_at (commit_byte + 5) count bytes in
+    let size : length payload ≡ count = length-take-le count (drop (commit_byte + 5) bytes) (omega (arith, length-drop (commit_byte + 5) bytes, within)) in
+    let is : payload ≡ take count (drop 5 (drop commit_byte bytes)) = ap (take count) (sym (drop-drop 5 commit_byte bytes)) in
+    read_on bytes payloads commit_byte (commit_byte + 5 + count) payload so_far (next_is (drop commit_byte bytes) payload count head is size) (omega (arith, size, small)) (omega (arith, size)) within
 
-pub read_to_end : (bytes : List ℕ) (payloads : List (List ℕ)) (gate count : ℕ) → AreReadTo bytes payloads gate → payload_at (drop gate bytes) ≡ None → count ≡ gate + 1 → EndsAt count payloads bytes
-read_to_end bytes payloads gate count so_far none is =
-    let there : drop gate bytes ≡ get_or bytes gate 0 ∷ drop (gate + 1) bytes = drop_more bytes gate 0 so_far.next in
-    let size : length bytes ≡ length so_far.head + length (flat_map block payloads ++ drop gate bytes) = ap length so_far.parts ∙ length-append so_far.head (flat_map block payloads ++ drop gate bytes) in
+pub read_to_end : (bytes : List ℕ) (payloads : List (List ℕ)) (commit_byte count : ℕ) → AreReadTo bytes payloads commit_byte → payload_at (drop commit_byte bytes) ≡ None → count ≡ commit_byte + 1 → EndsAt count payloads bytes
+read_to_end bytes payloads commit_byte count so_far none is =
+    let there : drop commit_byte bytes ≡ get_or bytes commit_byte 0 ∷ drop (commit_byte + 1) bytes = drop_more bytes commit_byte 0 so_far.next in
+    let size : length bytes ≡ length so_far.head + length (flat_map block payloads ++ drop commit_byte bytes) = ap length so_far.parts ∙ length-append so_far.head (flat_map block payloads ++ drop commit_byte bytes) in
     record {
       spelled = record {
         head = so_far.head;
-        gate = get_or bytes gate 0;
-        rest = drop (gate + 1) bytes;
+        commit_byte = get_or bytes commit_byte 0;
+        rest = drop (commit_byte + 1) bytes;
         parts = so_far.parts ∙ ap (λ (l : List ℕ). so_far.head ++ (flat_map block payloads ++ l)) there;
         header = so_far.header;
-        count_is = omega (arith, is, size, so_far.header, so_far.next, length-append (flat_map block payloads) (drop gate bytes), length-drop gate bytes);
+        count_is = omega (arith, is, size, so_far.header, so_far.next, length-append (flat_map block payloads) (drop commit_byte bytes), length-drop commit_byte bytes);
         small = so_far.small;
       };
       none = ap payload_at (sym there) ∙ none;

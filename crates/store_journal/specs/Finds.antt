@@ -21,6 +21,6 @@ IsOfFoundForm newer older (Older opened) = opened.journal.form ≡ older
 
 -- what took the payloads of the journal lends these texts: the first ones where they are of the newer form, and the others
 -- where they are of the older one
-abbrev pub LendsStill : {N O : Type 0} → (N → List (List ℕ)) → (O → List (List ℕ)) → (newer older : List (List ℕ)) → FoundForm N O → Type 0
-LendsStill of_newer of_older newer older (Newer opened) = of_newer opened.payloads ≡ newer
-LendsStill of_newer of_older newer older (Older opened) = of_older opened.payloads ≡ older
+abbrev pub BorrowsStill : {N O : Type 0} → (N → List (List ℕ)) → (O → List (List ℕ)) → (newer older : List (List ℕ)) → FoundForm N O → Type 0
+BorrowsStill of_newer of_older newer older (Newer opened) = of_newer opened.payloads ≡ newer
+BorrowsStill of_newer of_older newer older (Older opened) = of_older opened.payloads ≡ older

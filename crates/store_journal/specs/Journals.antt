@@ -8,7 +8,7 @@ use Rattle.outside.specs.Disks.{DiskState, Image, IsImage, image_side, reads_of,
 use Rattle.store_journal.specs.Payloads.{counting, generation_of, block, payload_at, payloads, payloads_in, side_bytes}
 
 -- A journal: its form, the side that counts with its generation, the number of its bytes up to and with the closed
--- gate, and whether a call has failed.
+-- commit byte, and whether a call has failed.
 pub record JournalState : Type 0 where
   pub form : ℕ
   pub live : Side
@@ -21,13 +21,13 @@ abbrev pub other_side : Side → Side
 other_side A = B
 other_side B = A
 
--- A side's bytes: the header, the blocks of these payloads, a gate, and what follows; and the number of those up to
--- and with that gate.
+-- A side's bytes: the header, the blocks of these payloads, a commit byte, and what follows; and the number of those up to
+-- and with that commit byte.
 pub record IsSpelled (count : ℕ) (payloads : List (List ℕ)) (bytes : List ℕ) : Type 0 where
   pub head : List ℕ
-  pub gate : ℕ
+  pub commit_byte : ℕ
   pub rest : List ℕ
-  pub parts : bytes ≡ head ++ (flat_map block payloads ++ gate ∷ rest)
+  pub parts : bytes ≡ head ++ (flat_map block payloads ++ commit_byte ∷ rest)
   pub header : length head ≡ 18
   pub count_is : count ≡ 19 + length (flat_map block payloads)
   pub small : All (λ payload. length payload < 2 ^ 32) payloads
@@ -35,20 +35,20 @@ pub record IsSpelled (count : ℕ) (payloads : List (List ℕ)) (bytes : List �
 -- No payload follows these ones on a side.
 pub record EndsAt (count : ℕ) (payloads : List (List ℕ)) (bytes : List ℕ) : Type 0 where
   pub spelled : IsSpelled count payloads bytes
-  pub none : payload_at (spelled.gate ∷ spelled.rest) ≡ None
+  pub none : payload_at (spelled.commit_byte ∷ spelled.rest) ≡ None
 
--- The gate after these payloads of a side isn't open.
-pub record HasClosedGateAt (count : ℕ) (payloads : List (List ℕ)) (bytes : List ℕ) : Type 0 where
+-- The commit byte after these payloads of a side isn't open.
+pub record HasClosedCommitByteAt (count : ℕ) (payloads : List (List ℕ)) (bytes : List ℕ) : Type 0 where
   pub spelled : IsSpelled count payloads bytes
-  pub closed : spelled.gate ≢ 1
+  pub closed : spelled.commit_byte ≢ 1
 
 -- The disk is the one that the journal knows, and only the journal wrote it since: a stop can leave what reads give, the
--- side that counts is the journal's, and its closed gate is where the journal writes next.
+-- side that counts is the journal's, and its closed commit byte is where the journal writes next.
 pub record IsInStep (journal : JournalState) (disk : DiskState) : Type 0 where
   pub settled : disk ≡ settled_disk (reads_of disk)
   pub counts : counting journal.form (reads_of disk) ≡ Some journal.live
   pub generation : generation_of (image_side journal.live (reads_of disk)) ≡ journal.generation
-  pub closed : HasClosedGateAt journal.len (payloads journal.form (reads_of disk)) (image_side journal.live (reads_of disk))
+  pub closed : HasClosedCommitByteAt journal.len (payloads journal.form (reads_of disk)) (image_side journal.live (reads_of disk))
 
 -- an image has the payloads of an image of a disk
 pub record HasPayloadsOf (form : ℕ) (disk : DiskState) (image : Image) : Type 0 where
@@ -56,12 +56,12 @@ pub record HasPayloadsOf (form : ℕ) (disk : DiskState) (image : Image) : Type 
   pub was : IsImage disk before
   pub same : payloads form image ≡ payloads form before
 
--- A side counts, and the gate after its last payload isn't open.
+-- A side counts, and the commit byte after its last payload isn't open.
 pub record IsHealthy (form : ℕ) (image : Image) : Type 0 where
   pub live : Side
   pub counts : counting form image ≡ Some live
   pub count : ℕ
-  pub closed : HasClosedGateAt count (payloads form image) (image_side live image)
+  pub closed : HasClosedCommitByteAt count (payloads form image) (image_side live image)
 
 -- a journal of this side and this generation
 pub record CountsAs (side : Side) (generation : ℕ) (journal : JournalState) : Type 0 where
@@ -83,11 +83,11 @@ pub record SideContent : Type 0 where
   pub generation : ℕ
   pub payloads : List (List ℕ)
 
--- the payload between its length and the gate after it
+-- the payload between its length and the commit byte after it
 abbrev pub payload_within : List ℕ → List ℕ
 payload_within bytes = take (length bytes - 5) (drop 4 bytes)
 
--- a payload with its length, and a closed gate
+-- a payload with its length, and a closed commit byte
 pub record IsReady (bytes : List ℕ) : Type 0 where
   pub parts : bytes ≡ text_bytes (payload_within bytes) ++ 0 ∷ []
   pub small : length (payload_within bytes) < 2 ^ 32

@@ -11,33 +11,33 @@ use Rattle.outside.specs.declared.disk.Side.TheVariants.{A, B}
 use Rattle.outside.specs.Disks.{Image, image_side}
 
 -- what a live side of a form begins with: a 1, the eight bytes `VUNITREC`, and the form
-abbrev pub mark : ℕ → List ℕ
-mark form = 1 ∷ (codes "VUNITREC" ++ form ∷ [])
+abbrev pub magic : ℕ → List ℕ
+magic form = 1 ∷ (codes "VUNITREC" ++ form ∷ [])
 
--- a side is live for a form where it begins so, and has a generation and a first gate
+-- a side is live for a form where it begins so, and has a generation and a first commit byte
 unfoldable pub is_live : ℕ → List ℕ → Bool
-is_live form bytes = nat_le 19 (length bytes) && bytes_eq (take 10 bytes) (mark form)
+is_live form bytes = nat_le 19 (length bytes) && bytes_eq (take 10 bytes) (magic form)
 
 -- the number after the form, in eight bytes
 unfoldable pub generation_of : List ℕ → ℕ
 generation_of bytes = from_le_bytes w64 (take 8 (drop 10 bytes))
 
--- what is read where a text is followed by one more gate
+-- what is read where a text is followed by one more commit byte
 abbrev pub gated : List ℕ × List ℕ → Option (List ℕ × List ℕ)
 gated read = if length read.1 == 0 then None else Some read
 
--- What a gate opens, with what follows from the next gate on: nothing, unless the gate is 1, and a text and one more
--- gate come after it.
+-- What a commit byte opens, with what follows from the next commit byte on: nothing, unless the commit byte is 1, and a text and one more
+-- commit byte come after it.
 unfoldable pub payload_at : List ℕ → Option (List ℕ × List ℕ)
 payload_at [] = None
-payload_at (gate ∷ rest) = if gate == 1 then option_and_then gated (text_at rest) else None
+payload_at (commit_byte ∷ rest) = if commit_byte == 1 then option_and_then gated (text_at rest) else None
 
--- the payloads from a gate on, at most so many
+-- the payloads from a commit byte on, at most so many
 unfoldable pub payloads_upto : ℕ → List ℕ → List (List ℕ)
 payloads_upto zero bytes = []
 payloads_upto (suc n) bytes = option_map_or (λ read. read.0 ∷ payloads_upto n read.1) (payload_at bytes) []
 
--- the payloads of a live side, from the first gate on up to the closed one
+-- the payloads of a live side, from the first commit byte on up to the closed one
 unfoldable pub payloads_in : List ℕ → List (List ℕ)
 payloads_in bytes = payloads_upto (length bytes) (drop 18 bytes)
 
@@ -51,13 +51,13 @@ counting form image =
 unfoldable pub payloads : ℕ → Image → List (List ℕ)
 payloads form image = option_map_or (λ side. payloads_in (image_side side image)) (counting form image) []
 
--- an open gate, and the payload after it
+-- an open commit byte, and the payload after it
 unfoldable pub block : List ℕ → List ℕ
 block payload = 1 ∷ text_bytes payload
 
--- what comes before the first gate
+-- what comes before the first commit byte
 unfoldable pub header : (form generation : ℕ) → List ℕ
-header form generation = mark form ++ to_le_bytes w64 generation
+header form generation = magic form ++ to_le_bytes w64 generation
 
 -- the bytes of a side of these payloads
 unfoldable pub side_bytes : (form generation : ℕ) → List (List ℕ) → List ℕ

@@ -33,7 +33,7 @@ making side bytes disk =
     then_steps (write_step side 1 bytes dead) (λ full.
     write_step side 0 (1 ∷ []) full ∷ [])))
 
--- A commit: what comes after the closed gate, and then the gate alone.
+-- A commit: what comes after the closed commit byte, and then the commit byte alone.
 unfoldable pub committing : Side → (len : ℕ) → List ℕ → DiskState → List Step
 committing live len bytes disk =
     then_steps (write_step live len bytes disk) (λ after.

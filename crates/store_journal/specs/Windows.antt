@@ -15,20 +15,20 @@ pub record Covers (window : Window) (at count : ℕ) : Type 0 where
   pub from : window.start ≤ at
   pub to : at + count ≤ window.start + length window.bytes.items
 
--- How many bytes the payload has that is opened by the gate that these bytes begin with, as it says, if it opens one.
+-- How many bytes the payload has that is opened by the commit byte that these bytes begin with, as it says, if it opens one.
 abbrev pub IsCountOf : List ℕ → Option ℕ → Type 0
 IsCountOf bytes None = payload_at bytes ≡ None
 IsCountOf bytes (Some count) = take 5 bytes ≡ 1 ∷ number_bytes count
 
--- The payload that is opened by the gate that these bytes begin with, if it opens one.
+-- The payload that is opened by the commit byte that these bytes begin with, if it opens one.
 abbrev pub IsNextOf : List ℕ → Option (List ℕ) → Type 0
 IsNextOf bytes None = payload_at bytes ≡ None
 IsNextOf bytes (Some payload) = bytes ≡ block payload ++ drop (5 + length payload) bytes
 
--- Payloads that were read so far, after the header, and the offset of the next gate.
-pub record AreReadTo (bytes : List ℕ) (payloads : List (List ℕ)) (gate : ℕ) : Type 0 where
+-- Payloads that were read so far, after the header, and the offset of the next commit byte.
+pub record AreReadTo (bytes : List ℕ) (payloads : List (List ℕ)) (commit_byte : ℕ) : Type 0 where
   pub head : List ℕ
-  pub parts : bytes ≡ head ++ (flat_map block payloads ++ drop gate bytes)
+  pub parts : bytes ≡ head ++ (flat_map block payloads ++ drop commit_byte bytes)
   pub header : length head ≡ 18
   pub small : All (λ payload. length payload < 2 ^ 32) payloads
-  pub next : gate < length bytes
+  pub next : commit_byte < length bytes

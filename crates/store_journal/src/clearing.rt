@@ -22,7 +22,7 @@ impl Journal {
     /// Opens the journal of the newer one of two forms on a disk without payloads, whatever the disk holds of either. It reads
     /// how each side begins, once for both forms, and takes up nothing of it; both sides give back their room before one of them
     /// is made. Where a disk can hold one form alone, both forms are that one.
-    pub fn emptied<D: Disk>(
+    pub fn open_empty<D: Disk>(
         alloc: Global,
         disk: &mut D,
         newer: u8,

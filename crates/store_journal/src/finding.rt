@@ -3,7 +3,7 @@
 ghost use Rattle.std.specs.Prelude.{◌≡◌, ◌≢◌, ◌≤◌, [], false, IfOk, IfSome, OnOk};
 ghost use Rattle.outside.specs.Counts.{StoreCounts};
 ghost use Rattle.outside.specs.Disks.{reads_of, settled_disk, AtAnyMoment, OpensWith, Rests};
-ghost use Rattle.store_journal.specs.Finds.{found_journal, found_taken, IsOfFoundForm, LendsStill};
+ghost use Rattle.store_journal.specs.Finds.{found_journal, found_taken, IsOfFoundForm, BorrowsStill};
 ghost use Rattle.store_journal.specs.Forms.{HoldsForms, HoldsFormsOf, found_form, has_form};
 ghost use Rattle.store_journal.specs.Headers.{headers_in};
 ghost use Rattle.store_journal.specs.Journals.{IsInStep, IsHealthy, OpensAs};
@@ -12,7 +12,7 @@ ghost use Rattle.store_journal.specs.Payloads.{payloads, side_bytes};
 use crate::layout::{FormHeaders, is_older};
 use crate::opening::{Opened, open_sides};
 use crate::sides::read_form_headers;
-use crate::{Journal, Taker};
+use crate::{Journal, Visitor};
 use outside::{Disk, StoreFault};
 use std::alloc::Global;
 
@@ -26,8 +26,8 @@ pub enum FoundForm<N, O> {
 impl Journal {
     /// Opens the journal of the newer one of two forms on a disk, or that of the older one where it alone is live; where
     /// neither is, an empty one of the newer form is made. It syncs both sides and reads how each begins, once for both
-    /// forms, and then reads the side that counts alone, whose payloads it hands to the taker for that form.
-    pub fn found_in<D: Disk, N: Taker + Drop, O: Taker + Drop>(
+    /// forms, and then reads the side that counts alone, whose payloads it hands to the visitor for that form.
+    pub fn found_in<D: Disk, N: Visitor + Drop, O: Visitor + Drop>(
         alloc: Global,
         disk: &mut D,
         newer: u8,
@@ -46,7 +46,7 @@ impl Journal {
         ensures opens { D.tells →
             OpensWith (D.moments disk.old) (D.moments disk.new)
             (HoldsForms newer older (reads_of (D.moments disk.old).now)) }
-        // Where a side counts for the form that does, and its last gate is closed, nothing is written.
+        // Where a side counts for the form that does, and its last commit byte is closed, nothing is written.
         ensures rests { D.tells →
             let reads = reads_of (D.moments disk.old).now in
             IsHealthy (found_form newer older reads) reads →
@@ -79,8 +79,8 @@ impl Journal {
             (λ found.
             payloads form (reads_of (D.moments disk.new).now)
             ≡ found_taken N.taken O.taken found) }
-        ensures lends { IfOk result
-            (LendsStill N.lends O.lends (N.lends for_newer) (O.lends for_older)) }
+        ensures borrows { IfOk result
+            (BorrowsStill N.borrows O.borrows (N.borrows for_newer) (O.borrows for_older)) }
         // The side that counts goes on counting; where none does, it is A, of generation 1.
         ensures counts { D.tells →
             let reads = reads_of (D.moments disk.old).now in
@@ -105,7 +105,7 @@ impl Journal {
 }
 
 /// Opens the form that counts.
-fn open_found<D: Disk, N: Taker + Drop, O: Taker + Drop>(
+fn open_found<D: Disk, N: Visitor + Drop, O: Visitor + Drop>(
     alloc: Global,
     disk: &mut D,
     newer: u8,
@@ -144,8 +144,8 @@ fn open_found<D: Disk, N: Taker + Drop, O: Taker + Drop>(
         IfOk result
         (λ found.
         found_taken N.taken O.taken found ≡ payloads (found_form newer older reads) reads) }
-    ensures lends { IfOk result
-        (LendsStill N.lends O.lends (N.lends for_newer) (O.lends for_older)) }
+    ensures borrows { IfOk result
+        (BorrowsStill N.borrows O.borrows (N.borrows for_newer) (O.borrows for_older)) }
     ensures counts { D.tells →
         let reads = reads_of (D.moments disk.old).now in
         IfOk result

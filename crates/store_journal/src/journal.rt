@@ -5,7 +5,7 @@
 //!     neither live --open--> A live --replace--> both live, and the higher generation counts --replace--> ..
 //!     one live for an older form --change_form--> one live for each form
 //!
-//! 1. The side that counts is written after its closed gate alone, and then at that gate, once all after it is synced.
+//! 1. The side that counts is written after its closed commit byte alone, and then at that commit byte, once all after it is synced.
 //! 2. The other side is written while it isn't live, and made live by its first byte, once all after that is synced.
 //! 3. A side that is made in the place of one of its form has the next generation.
 //! 4. A side is live for one form at most, so that making one for a newer form leaves what the older one has.
@@ -85,7 +85,7 @@ impl Journal {
         self.generation
     }
 
-    /// The number of bytes of the side that counts, up to and with the closed gate.
+    /// The number of bytes of the side that counts, up to and with the closed commit byte.
     pub fn length(&self) -> u64
         requires { self.now.broken ≡ false }
         ensures { result ≡ self.now.len }
@@ -155,7 +155,7 @@ impl Journal {
         }
     }
 
-    /// Writes after the closed gate, and then opens it.
+    /// Writes after the closed commit byte, and then opens it.
     fn append<D: Disk>(&self, disk: &mut D, bytes: &[u8]) -> Result<(), DiskFailed>
         requires { D.tells → IsInStep self.now (D.moments disk.old).now }
         ensures fits { OnOk result (self.now.len + length bytes.now < 2 ^ 63) }

@@ -1,7 +1,7 @@
-// How a side begins: a byte that says whether it is live, the mark, the form, the generation, and the first gate.
+// How a side begins: a byte that says whether it is live, the magic, the form, the generation, and the first commit byte.
 ghost use Rattle.std.specs.Prelude.{◌≡◌, ℕ, ◌^◌, ◌<◌, ◌≤◌, ◌∷◌, List, [], length, take, min, All, Some, None, IfOk, IfSome, if◌then◌else◌};
 ghost use Rattle.outside.specs.Disks.{Image};
-ghost use Rattle.store_journal.specs.Payloads.{mark, is_live, generation_of, side_bytes};
+ghost use Rattle.store_journal.specs.Payloads.{magic, is_live, generation_of, side_bytes};
 ghost use Rattle.store_journal.specs.Forms.{found_form, has_form, older_counts};
 ghost use Rattle.store_journal.specs.Headers.{header_in, headers_in, IsFoundLive};
 
@@ -11,8 +11,8 @@ use base_bytes::ByteWriter;
 use outside::Side;
 use std::alloc::Global;
 
-/// Where the first gate stands.
-pub const FIRST_GATE: usize = 18;
+/// Where the first commit byte stands.
+pub const FIRST_COMMIT_BYTE: usize = 18;
 
 /// What a live side says of itself: its generation, and the number of its bytes.
 #[derive(Clone, Copy)]
@@ -44,8 +44,8 @@ pub struct Live {
 }
 
 /// What a live side of a form begins with.
-fn mark_of(form: u8) -> [u8; 10]
-    ensures { result ≡ mark form }
+fn magic_of(form: u8) -> [u8; 10]
+    ensures { result ≡ magic form }
 {
     [1, b'V', b'U', b'N', b'I', b'T', b'R', b'E', b'C', form]
 }
@@ -55,7 +55,7 @@ fn mark_of(form: u8) -> [u8; 10]
 fn live_generation(form: u8, bytes: &[u8]) -> Option<u64>
     ensures { result ≡ (if is_live form bytes.now then Some (generation_of bytes.now) else None) }
 {
-    if bytes.len() <= FIRST_GATE || &bytes[..10] != mark_of(form).as_slice() {
+    if bytes.len() <= FIRST_COMMIT_BYTE || &bytes[..10] != magic_of(form).as_slice() {
         return None;
     }
     Some(u64::from_le_bytes([
@@ -167,7 +167,7 @@ pub fn full_side(
     ensures small { IfOk result (λ _. All (λ payload. length payload < 2 ^ 32) payloads.now) }
 {
     let mut out = ByteWriter::new(alloc);
-    out.plain(&mark_of(form)[1..])?;
+    out.plain(&magic_of(form)[1..])?;
     out.u64(generation)?;
     for i in 0..payloads.len() {
         out.plain(&[1])?;

@@ -1,4 +1,4 @@
-//! A list of payloads on the two sides of a disk that may lose power at any moment. A payload counts once the gate
+//! A list of payloads on the two sides of a disk that may lose power at any moment. A payload counts once the commit byte
 //! before it is open, and that is written alone, after all that comes after it.
 #![tactic(auto)]
 
@@ -12,7 +12,7 @@ mod payloads;
 mod reading;
 mod ready;
 mod sides;
-mod taker;
+mod visitor;
 mod windows;
 
 pub use finding::FoundForm;
@@ -20,4 +20,4 @@ pub use journal::Journal;
 pub use opening::Opened;
 pub use payloads::Payloads;
 pub use ready::{Ready, ReadySide};
-pub use taker::Taker;
+pub use visitor::Visitor;

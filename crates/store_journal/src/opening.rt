@@ -13,7 +13,7 @@ use crate::layout::{Headers, Live, empty_side, live_side};
 use crate::making::make_side;
 use crate::reading::{Found, read_payloads};
 use crate::sides::read_headers;
-use crate::{Journal, Taker};
+use crate::{Journal, Visitor};
 use outside::{Disk, Side, StoreFault, write_durably};
 use std::alloc::Global;
 
@@ -26,14 +26,14 @@ pub struct Opened<T> {
 
 impl Journal {
     /// Opens the journal of a form on a disk, whatever the disk holds: that denotes some payloads, possibly none. It
-    /// reads how each side begins, and then the side that counts alone, whose payloads it hands to a taker.
-    pub fn from_disk<D: Disk, T: Taker + Drop>(
+    /// reads how each side begins, and then the side that counts alone, whose payloads it hands to a visitor.
+    pub fn from_disk<D: Disk, T: Visitor + Drop>(
         alloc: Global,
         disk: &mut D,
         form: u8,
-        taker: T,
+        visitor: T,
     ) -> Result<Opened<T>, StoreFault>
-        requires { T.taken taker ≡ [] }
+        requires { T.taken visitor ≡ [] }
         // At any moment, after a fault too, a stop can leave the payloads of an image at entry.
         ensures any_moment { D.tells →
             AtAnyMoment (D.moments disk.old) (D.moments disk.new)
@@ -42,7 +42,7 @@ impl Journal {
         ensures opens { D.tells →
             OpensWith (D.moments disk.old) (D.moments disk.new)
             (λ image. payloads form image ≡ payloads form (reads_of (D.moments disk.old).now)) }
-        // Where a side counts and its last gate is closed, nothing is written.
+        // Where a side counts and its last commit byte is closed, nothing is written.
         ensures rests { D.tells →
             IsHealthy form (reads_of (D.moments disk.old).now) →
             Rests result (D.moments disk.old) (D.moments disk.new) }
@@ -56,7 +56,7 @@ impl Journal {
             IfOk result
             (λ opened.
             payloads form (reads_of (D.moments disk.new).now) ≡ T.taken opened.payloads) }
-        ensures lends { IfOk result (λ opened. T.lends opened.payloads ≡ T.lends taker) }
+        ensures borrows { IfOk result (λ opened. T.borrows opened.payloads ≡ T.borrows visitor) }
         // The side that counts goes on counting; where none does, it is A, of generation 1.
         ensures counts { D.tells →
             IfOk result
@@ -73,19 +73,19 @@ impl Journal {
             (D.failed_disk_calls disk.new) }
     {
         let headers = read_headers(alloc, disk, form)?;
-        open_sides(alloc, disk, form, headers, taker)
+        open_sides(alloc, disk, form, headers, visitor)
     }
 }
 
 /// Opens the side that counts, or makes one.
-pub(crate) fn open_sides<D: Disk, T: Taker + Drop>(
+pub(crate) fn open_sides<D: Disk, T: Visitor + Drop>(
     alloc: Global,
     disk: &mut D,
     form: u8,
     headers: Headers,
-    taker: T,
+    visitor: T,
 ) -> Result<Opened<T>, StoreFault>
-    requires none { T.taken taker ≡ [] }
+    requires none { T.taken visitor ≡ [] }
     requires settled { D.tells →
         (D.moments disk.old).now ≡ settled_disk (reads_of (D.moments disk.old).now) }
     requires headers { D.tells → headers ≡ headers_in form (reads_of (D.moments disk.old).now) }
@@ -115,7 +115,7 @@ pub(crate) fn open_sides<D: Disk, T: Taker + Drop>(
         IfOk result
         (λ opened.
         T.taken opened.payloads ≡ payloads form (reads_of (D.moments disk.old).now)) }
-    ensures lends { IfOk result (λ opened. T.lends opened.payloads ≡ T.lends taker) }
+    ensures borrows { IfOk result (λ opened. T.borrows opened.payloads ≡ T.borrows visitor) }
     ensures counts { D.tells →
         IfOk result
         (λ opened. OpensAs form (reads_of (D.moments disk.old).now) opened.journal) }
@@ -130,18 +130,18 @@ pub(crate) fn open_sides<D: Disk, T: Taker + Drop>(
         (D.failed_disk_calls disk.new) }
 {
     match live_side(headers) {
-        None => begin(disk, form, taker),
-        Some(live) => open(alloc, disk, form, live, taker),
+        None => begin(disk, form, visitor),
+        Some(live) => open(alloc, disk, form, live, visitor),
     }
 }
 
 /// Makes side A, where no side counts.
-pub(crate) fn begin<D: Disk, T: Taker + Drop>(
+pub(crate) fn begin<D: Disk, T: Visitor + Drop>(
     disk: &mut D,
     form: u8,
-    taker: T,
+    visitor: T,
 ) -> Result<Opened<T>, StoreFault>
-    requires taken { T.taken taker ≡ [] }
+    requires taken { T.taken visitor ≡ [] }
     requires settled { D.tells →
         (D.moments disk.old).now ≡ settled_disk (reads_of (D.moments disk.old).now) }
     requires none { D.tells → counting form (reads_of (D.moments disk.old).now) ≡ None }
@@ -159,7 +159,7 @@ pub(crate) fn begin<D: Disk, T: Taker + Drop>(
         IfOk result
         (λ opened.
         T.taken opened.payloads ≡ payloads form (reads_of (D.moments disk.old).now)) }
-    ensures lends { IfOk result (λ opened. T.lends opened.payloads ≡ T.lends taker) }
+    ensures borrows { IfOk result (λ opened. T.borrows opened.payloads ≡ T.borrows visitor) }
     ensures fresh { D.tells →
         OnOk result
         (reads_of (D.moments disk.new).now
@@ -173,20 +173,20 @@ pub(crate) fn begin<D: Disk, T: Taker + Drop>(
     make_side(disk, Side::A, &empty_side(form))?;
     Ok(Opened {
         journal: Journal::of(form, Side::A, 1, 19),
-        payloads: taker,
+        payloads: visitor,
     })
 }
 
 /// Reads the payloads of the side that counts, and opens it.
-fn open<D: Disk, T: Taker + Drop>(
+fn open<D: Disk, T: Visitor + Drop>(
     alloc: Global,
     disk: &mut D,
     form: u8,
     live: Live,
-    taker: T,
+    visitor: T,
 ) -> Result<Opened<T>, StoreFault>
     requires size { 19 ≤ live.len }
-    requires none { T.taken taker ≡ [] }
+    requires none { T.taken visitor ≡ [] }
     requires settled { D.tells →
         (D.moments disk.old).now ≡ settled_disk (reads_of (D.moments disk.old).now) }
     requires live { D.tells → IsLiveOf form (reads_of (D.moments disk.old).now) live }
@@ -205,19 +205,19 @@ fn open<D: Disk, T: Taker + Drop>(
         IfOk result
         (λ opened.
         T.taken opened.payloads ≡ payloads form (reads_of (D.moments disk.old).now)) }
-    ensures lends { IfOk result (λ opened. T.lends opened.payloads ≡ T.lends taker) }
+    ensures borrows { IfOk result (λ opened. T.borrows opened.payloads ≡ T.borrows visitor) }
     ensures counts { IfOk result (λ opened. CountsAs live.side live.generation opened.journal) }
     ensures form { IfOk result (λ opened. opened.journal.form ≡ form) }
     ensures usable { IfOk result (λ opened. opened.journal.broken ≡ false) }
     ensures cause { StoreCounts result (D.failed_disk_calls disk.old)
         (D.failed_disk_calls disk.new) }
 {
-    let found = read_payloads(alloc, disk, live, taker)?;
+    let found = read_payloads(alloc, disk, live, visitor)?;
     finish_opening(disk, form, live, found)
 }
 
-/// Opens the side that counts, of which this was found: closes the gate after its payloads where it is open.
-fn finish_opening<D: Disk, T: Taker + Drop>(
+/// Opens the side that counts, of which this was found: closes the commit byte after its payloads where it is open.
+fn finish_opening<D: Disk, T: Visitor + Drop>(
     disk: &mut D,
     form: u8,
     live: Live,
@@ -230,7 +230,7 @@ fn finish_opening<D: Disk, T: Taker + Drop>(
     requires end { D.tells →
         let bytes = image_side live.side (reads_of (D.moments disk.old).now) in
         EndsAt found.len (T.taken found.payloads) bytes }
-    requires gate { D.tells →
+    requires commit_byte { D.tells →
         let bytes = image_side live.side (reads_of (D.moments disk.old).now) in
         IsTrue found.is_open ↔ (slice_index bytes (found.len - 1) ≡ 1) }
     ensures any_moment { D.tells →
@@ -248,7 +248,7 @@ fn finish_opening<D: Disk, T: Taker + Drop>(
         IfOk result
         (λ opened.
         T.taken opened.payloads ≡ payloads form (reads_of (D.moments disk.old).now)) }
-    ensures lends { IfOk result (λ opened. T.lends opened.payloads ≡ T.lends found.payloads) }
+    ensures borrows { IfOk result (λ opened. T.borrows opened.payloads ≡ T.borrows found.payloads) }
     ensures counts { IfOk result (λ opened. CountsAs live.side live.generation opened.journal) }
     ensures form { IfOk result (λ opened. opened.journal.form ≡ form) }
     ensures usable { IfOk result (λ opened. opened.journal.broken ≡ false) }

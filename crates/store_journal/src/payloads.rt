@@ -7,7 +7,7 @@ use std::alloc::Global;
 use std::marker::Model;
 
 /// Payloads of a journal, in order, each of fewer than 2^32 bytes. Each has a buffer of just its bytes, so that memory
-/// which was given back in pieces serves for them. Contracts see their list.
+/// which was given back in segments serves for them. Contracts see their list.
 #[derive(Drop)]
 pub struct Payloads {
     list: Vec<Text>,
@@ -48,7 +48,7 @@ impl Payloads {
         self.list.is_empty()
     }
 
-    /// The bytes of the payload at a position, counted from 0, lent.
+    /// The bytes of the payload at a position, counted from 0, borrowed.
     pub fn get(&self, i: u64) -> &[u8]
         requires { i < length self.now }
         ensures payload { slice_get self.now i ≡ Some result.now }

@@ -40,7 +40,7 @@ impl Ready {
         Ok(frame)
     }
 
-    /// The payload that was written after its length, which is moved in, with a closed gate after it.
+    /// The payload that was written after its length, which is moved in, with a closed commit byte after it.
     pub fn of(frame: ByteWriter) -> Result<Ready, NoMemory>
         requires length { frame ≡ text_bytes (drop 4 frame) }
         requires small { length (drop 4 frame) < 2 ^ 32 }
@@ -53,7 +53,7 @@ impl Ready {
         })
     }
 
-    /// A copy of the payload, with its length first and a closed gate after, in no more memory than that.
+    /// A copy of the payload, with its length first and a closed commit byte after, in no more memory than that.
     pub(crate) fn new(alloc: Global, payload: &[u8]) -> Result<Ready, NoMemory>
         requires { length payload.now < 2 ^ 32 }
         ensures { IfOk result (λ ready. ready ≡ payload.now) }
@@ -63,14 +63,14 @@ impl Ready {
         Ready::of(frame)
     }
 
-    /// The payload, lent from what is written.
+    /// The payload, borrowed from what is written.
     pub fn payload(&self) -> &[u8]
         ensures { result.now ≡ self.now }
     {
         inner(self.bytes())
     }
 
-    /// What is written after the closed gate.
+    /// What is written after the closed commit byte.
     pub(crate) fn bytes(&self) -> &[u8]
         ensures bytes { result.now ≡ text_bytes self.now ++ 0 ∷ [] }
         ensures small { length self.now < 2 ^ 32 }
@@ -79,7 +79,7 @@ impl Ready {
     }
 }
 
-/// What is between a length of four bytes and the gate at the end.
+/// What is between a length of four bytes and the commit byte at the end.
 fn inner(bytes: &[u8]) -> &[u8]
     requires { 5 ≤ length bytes.now }
     ensures { result.now ≡ payload_within bytes.now }

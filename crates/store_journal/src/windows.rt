@@ -49,7 +49,7 @@ impl Window {
         before <= len && span.count <= len - before
     }
 
-    /// Bytes that are among these, lent.
+    /// Bytes that are among these, borrowed.
     pub fn slice(&self, span: Span) -> &[u8]
         requires { Covers self.now span.start span.count }
         ensures is { (reads : List ℕ) → IsWindowOf reads self.now →

@@ -1,3 +1,3 @@
--- The definitions of this crate.
+-- The definitions.
 pub mod Codes
 pub mod Commands

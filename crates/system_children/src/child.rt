@@ -78,7 +78,7 @@ pub fn utf8(text: &Text) -> Result<&str, IoFault>
 {
     match str::from_utf8(text.bytes()) {
         Ok(text) => Ok(text),
-        Err(_) => Err(IoFault::failed("start", "a word or a path isn't UTF-8")),
+        Err(_) => Err(IoFault::own_fault("start", "a word or a path isn't UTF-8")),
     }
 }
 
@@ -87,7 +87,7 @@ fn command_of(alloc: Global, own_path: &Option<String>, words: &[Text]) -> Resul
     ensures { IfOk result (IsCommandOf (option_map string_bytes own_path.now) words.now) }
 {
     let [first, rest @ ..] = words else {
-        return Err(IoFault::failed("start", "it has no word"));
+        return Err(IoFault::own_fault("start", "it has no word"));
     };
     let mut command = Command::new(alloc, program_of(own_path, first)?)?;
     for word in rest {
@@ -106,13 +106,13 @@ fn program_of<'a>(own_path: &'a Option<String>, word: &'a Text) -> Result<&'a st
     }
     match own_path {
         Some(path) => Ok(path.as_str()),
-        None => Err(IoFault::failed("start", "the program's own path isn't known")),
+        None => Err(IoFault::own_fault("start", "the program's own path isn't known")),
     }
 }
 
 impl Running {
     /// What the system is asked of its output. A number below 0, of one that is at its end, is passed over.
-    pub fn asked(&self) -> pollfd {
+    pub fn poll_request(&self) -> pollfd {
         let fd = match &self.child.stdout {
             Some(stdout) => stdout.as_raw_fd(),
             None => -1,
@@ -209,7 +209,7 @@ pub fn end_child(
     };
     let code = code_of(status, output.more, &results);
     if code == NO_ANSWER_CODE {
-        return Err(IoFault::failed("end", "its code, 75, says that it has no answer"));
+        return Err(IoFault::own_fault("end", "its code, 75, says that it has no answer"));
     }
     let results = take_results(files, buffer, alloc, results)?;
     let exit = Exit {

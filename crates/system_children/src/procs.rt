@@ -9,15 +9,14 @@ use crate::turns::Turns;
 use base::{MaybeText, NoMemory, Request, Text};
 use libc::net::{POLLHUP, POLLOUT, poll};
 use libc::types::pollfd;
-use outside::{Ended, Procs, StartFault, WaitFault, counted};
+use outside::{Ended, Procs, StartFault, WaitFault, count_fault};
 use std::alloc::Global;
 use std::fs::Files;
 use std::io::{ErrorKind, Write};
 use std::os::fd::{AsRawFd, RawFd};
 use std::process::{ChildStdin, Processes, SystemProcess};
 use std::{env, fs, io};
-use system_causes::Cause;
-use system_files::IoFault;
+use system_files::{Cause, IoFault};
 
 /// The bytes that one read takes at most: what a pipe holds.
 const CHUNK: usize = 65_536;
@@ -87,7 +86,7 @@ impl<R: Processes<Started = SystemProcess> + Files + AllocGlobal + Drop> ChildPr
     }
 
     /// The tickets of the running children, in order of start.
-    pub fn running(&self) -> &[u64]
+    pub fn running_tickets(&self) -> &[u64]
         ensures { result.now ≡ self.now.tickets.items }
     {
         self.tickets.as_slice()
@@ -161,10 +160,10 @@ impl<R: Processes<Started = SystemProcess> + Files + AllocGlobal + Drop> ChildPr
     {
         let ticket = self.next_ticket;
         if ticket == u64::MAX {
-            return Err(IoFault::failed("start", "no ticket is left"));
+            return Err(IoFault::own_fault("start", "no ticket is left"));
         }
         if self.tickets.contains(&ticket) {
-            return Err(IoFault::failed("start", "no ticket is left"));
+            return Err(IoFault::own_fault("start", "no ticket is left"));
         }
         Ok(ticket)
     }
@@ -209,7 +208,7 @@ impl<R: Processes<Started = SystemProcess> + Files + AllocGlobal + Drop> ChildPr
         ensures children { self.new.lost_children ≡ self.old.lost_children }
     {
         let Some(mut stdin) = stdin else {
-            return Err(IoFault::failed("write", "it has no input"));
+            return Err(IoFault::own_fault("write", "it has no input"));
         };
         if os::set_nonblocking(stdin.as_raw_fd(), true) != 0 {
             return Err(last_fault("ioctl"));
@@ -229,7 +228,7 @@ impl<R: Processes<Started = SystemProcess> + Files + AllocGlobal + Drop> ChildPr
                 Err(error) => return Err(IoFault::of("write", error)),
             }
         }
-        Err(IoFault::failed("write", "it has no end"))
+        Err(IoFault::own_fault("write", "it has no end"))
     }
 
     /// Waits until the last child takes more of its input or prints, and reads what it printed. It may wait for another
@@ -265,7 +264,7 @@ impl<R: Processes<Started = SystemProcess> + Files + AllocGlobal + Drop> ChildPr
         }
     }
 
-    /// Whether the output of a child from a place on is at its end.
+    /// Whether the output of a child from an index on is at its end.
     fn has_end_from(&self, from: usize) -> bool {
         self.children
             .iter()
@@ -273,7 +272,7 @@ impl<R: Processes<Started = SystemProcess> + Files + AllocGlobal + Drop> ChildPr
             .any(|child| child.is_at_end())
     }
 
-    /// Waits until some output of the children from a place on can be read on, or more can be written to this pipe, and
+    /// Waits until some output of the children from an index on can be read on, or more can be written to this pipe, and
     /// reads each output that can. Says whether there was one of these within so many milliseconds; a number below 0 is
     /// no limit, and no pipe.
     fn turn(&mut self, from: usize, stdin: RawFd, limit: i32) -> Result<bool, IoFault>
@@ -295,11 +294,11 @@ impl<R: Processes<Started = SystemProcess> + Files + AllocGlobal + Drop> ChildPr
         Err(last_fault("poll"))
     }
 
-    /// The place of the first child, in order of start, whose output is at its end; it waits until there is one. Where
+    /// The index of the first child, in order of start, whose output is at its end; it waits until there is one. Where
     /// the system can't be asked the oldest child is given up.
     fn first_at_end(&mut self) -> usize
         requires { 0 < length self.old.tickets.items }
-        ensures place { result < length self.new.tickets.items }
+        ensures index { result < length self.new.tickets.items }
         ensures tickets { self.new.tickets.items ≡ self.old.tickets.items }
         ensures starts { self.new.failed_starts ≡ self.old.failed_starts }
         ensures children { self.new.lost_children ≡ self.old.lost_children }
@@ -313,7 +312,7 @@ impl<R: Processes<Started = SystemProcess> + Files + AllocGlobal + Drop> ChildPr
                 return 0;
             }
         }
-        self.children[0].give_up(IoFault::failed("poll", "it has no end"));
+        self.children[0].give_up(IoFault::own_fault("poll", "it has no end"));
         0
     }
 }
@@ -324,7 +323,7 @@ fn last_fault(call: &'static str) -> IoFault {
     IoFault::Failed(Cause { call, error })
 }
 
-/// Writes down what the system is to be asked of the children from a place on, and of a pipe that is written.
+/// Writes down what the system is to be asked of the children from an index on, and of a pipe that is written.
 fn ask(
     asked: &mut Vec<pollfd>,
     children: &[Running],
@@ -333,7 +332,7 @@ fn ask(
 ) -> Result<(), IoFault> {
     asked.clear();
     for child in children.iter().skip(from) {
-        asked.push(child.asked())?;
+        asked.push(child.poll_request())?;
     }
     asked.push(pollfd {
         fd: stdin,
@@ -343,7 +342,7 @@ fn ask(
     Ok(())
 }
 
-/// Reads from each child from a place on of which the system has something to tell: once, which takes all that a pipe
+/// Reads from each child from an index on of which the system has something to tell: once, which takes all that a pipe
 /// holds, and once more where nobody can write to the pipe any longer, since then no read waits.
 fn read_ready(children: &mut [Running], from: usize, asked: &[pollfd], buffer: &mut [u8]) {
     for (child, asked) in children.iter_mut().skip(from).zip(asked) {
@@ -405,7 +404,7 @@ impl<R: Processes<Started = SystemProcess> + Files + AllocGlobal + Drop> Procs f
             Err(IoFault::NoMemory) => Err(StartFault::NoMemory),
             Err(IoFault::Failed(cause)) => {
                 self.note_start(alloc, request, cause);
-                self.failed_starts = counted(self.failed_starts);
+                self.failed_starts = count_fault(self.failed_starts);
                 Err(StartFault::Failed)
             }
         }
@@ -414,8 +413,8 @@ impl<R: Processes<Started = SystemProcess> + Files + AllocGlobal + Drop> Procs f
     fn wait_any(&mut self, alloc: Global) -> Result<Ended, WaitFault> {
         let at = self.first_at_end();
         let ticket = self.tickets[at];
-        let place = leave(&mut self.tickets, ticket);
-        let running = self.children.remove(place);
+        let index = leave(&mut self.tickets, ticket);
+        let running = self.children.remove(index);
         let buffer = self.buffer.as_mut_slice();
         match end_child(&self.runtime, buffer, alloc, running) {
             Ok(ChildEnd { exit, signal }) => {
@@ -425,7 +424,7 @@ impl<R: Processes<Started = SystemProcess> + Files + AllocGlobal + Drop> Procs f
             Err(IoFault::NoMemory) => Err(WaitFault::NoMemory { ticket }),
             Err(IoFault::Failed(cause)) => {
                 self.note_loss(cause);
-                self.lost_children = counted(self.lost_children);
+                self.lost_children = count_fault(self.lost_children);
                 Err(WaitFault::Lost { ticket })
             }
         }

@@ -96,7 +96,7 @@ fn move_aside(files: &impl Files, alloc: Global, path: &str) -> Result<(), IoFau
             };
         }
     }
-    Err(IoFault::failed("move aside what is at its results", "no name is left"))
+    Err(IoFault::own_fault("move aside what is at its results", "no name is left"))
 }
 
 /// The results that lie at the path, if they are there in a regular file and aren't too long.

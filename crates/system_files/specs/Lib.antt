@@ -1,5 +1,8 @@
--- The definitions of this crate.
+-- The definitions.
+pub mod Locations
+pub mod UntoldDisk
 pub mod Faults
 pub mod Prefixes
-pub mod Untold
+pub mod UntoldFiles
 pub mod Takes
+pub mod NoReports

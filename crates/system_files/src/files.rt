@@ -24,7 +24,7 @@ pub fn read_file<R: Files>(
     ensures { IfOk result (FitsReadLimit limit) }
 {
     let Ok(path) = str::from_utf8(path) else {
-        return Err(IoFault::failed("open", "the path isn't UTF-8"));
+        return Err(IoFault::own_fault("open", "the path isn't UTF-8"));
     };
     match fs::open(files, path) {
         Ok(mut file) => {
@@ -61,7 +61,7 @@ pub fn read_regular_file<R: Files>(
     ensures { IfOk result (FitsReadLimit limit) }
 {
     let Ok(path) = str::from_utf8(path) else {
-        return Err(IoFault::failed("open", "the path isn't UTF-8"));
+        return Err(IoFault::own_fault("open", "the path isn't UTF-8"));
     };
     let Some(mut file) = open_regular_file(files, path)? else {
         return Ok(ReadEnd::Absent);

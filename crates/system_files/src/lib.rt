@@ -1,17 +1,54 @@
+//! Calls of the system that failed, and locations in files, as a user reads of them.
+//! Which process has locked a file.
+//! Lines on standard error, which never keep the program waiting for whoever reads them.
+//! A disk over two files of the system.
 //! Files and streams of the system: reading of a reader or of a file, by lines, to its end or up to a limit; the present folder as a
 //! tree of files; standard input and standard output.
+//! Reports in files of the system.
+//! How many records of a store can't be read: both sides are looked at as a run begins to read them.
 #![tactic(auto)]
 
+mod beside;
 mod buffered;
+mod cause;
+mod disk;
 mod files;
+mod holder;
+mod kind;
+mod line;
 mod lines;
 mod listing;
+mod location;
+mod look;
+mod messages;
+mod opening;
+mod payloads;
+mod protected_files;
 mod reading;
+mod reports;
+mod side;
+mod storage;
 mod streams;
 mod tree;
+mod visible;
+mod walk;
+mod watched;
+mod writing;
 
+pub use cause::{Cause, cause_line, name_cause};
+pub use disk::FileDisk;
 pub use files::{means_absent, read_file, read_regular_file};
+pub use holder::lock_holder;
+pub use line::{LINE_LIMIT, end_line, shorten_line};
 pub use listing::OUTPUT_FOLDER;
+pub use location::{Location, location_line, location_of};
+pub use look::{Unread, unread_records};
+pub use messages::Messages;
+pub use opening::STORE_NAMES;
+pub use protected_files::ProtectedFiles;
 pub use reading::{IoFault, Prefix, drain, read_prefix};
+pub use reports::FileReports;
 pub use streams::{StdSink, StdSource};
 pub use tree::FileTree;
+pub use visible::push_visible;
+pub use watched::WatchedDisk;

@@ -77,7 +77,7 @@ pub(crate) fn take_line<R: Read>(
         }
         buffered.skip(length);
     }
-    Err(IoFault::failed("read", "it has no end"))
+    Err(IoFault::own_fault("read", "it has no end"))
 }
 
 /// Bytes, and what was taken after them.

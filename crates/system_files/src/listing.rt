@@ -47,7 +47,7 @@ pub fn list_names<R: Files>(
     if names.len() as u64 <= limit && is_listing(names.as_slice()) {
         Ok(NamesEnd::Got(Items::from_vec(names)))
     } else {
-        Err(IoFault::failed("list", "a name that isn't one of a file"))
+        Err(IoFault::own_fault("list", "a name that isn't one of a file"))
     }
 }
 
@@ -96,7 +96,7 @@ fn find_files<R: Files>(
             return Err(fault);
         }
     }
-    Err(IoFault::failed("list", "it has no end"))
+    Err(IoFault::own_fault("list", "it has no end"))
 }
 
 /// Takes the entries of one folder. The present folder has the empty path. A folder that has gone since it was seen has
@@ -127,7 +127,7 @@ fn read_folder<R: Files>(
             return Ok(());
         }
     }
-    Err(IoFault::failed("list", "it has no end"))
+    Err(IoFault::own_fault("list", "it has no end"))
 }
 
 /// Takes entries of a folder by their names, each of which is ended by a byte 0.
@@ -158,10 +158,10 @@ fn take_entry<R: Files>(
     failed_at: &mut Option<String>,
 ) -> Result<(), IoFault> {
     let Ok(name) = str::from_utf8(name) else {
-        *failed_at = Some(joined(alloc, folder, shown(alloc, name)?.as_str())?);
-        return Err(IoFault::failed("list", "its name isn't UTF-8"));
+        *failed_at = Some(join_path(alloc, folder, text_of_name(alloc, name)?.as_str())?);
+        return Err(IoFault::own_fault("list", "its name isn't UTF-8"));
     };
-    let path = joined(alloc, folder, name)?;
+    let path = join_path(alloc, folder, name)?;
     if path.len() > PATH_LIMIT {
         return Ok(());
     }
@@ -178,7 +178,7 @@ fn take_entry<R: Files>(
 }
 
 /// The path of an entry of a folder.
-fn joined(alloc: Global, folder: &str, name: &str) -> Result<String, IoFault> {
+fn join_path(alloc: Global, folder: &str, name: &str) -> Result<String, IoFault> {
     let mut path = String::from_str(alloc, folder)?;
     if !folder.is_empty() {
         path.push('/')?;
@@ -188,7 +188,7 @@ fn joined(alloc: Global, folder: &str, name: &str) -> Result<String, IoFault> {
 }
 
 /// A name that isn't UTF-8 as it is shown: with a question mark for each byte that is no printable character of ASCII.
-fn shown(alloc: Global, name: &[u8]) -> Result<String, IoFault> {
+fn text_of_name(alloc: Global, name: &[u8]) -> Result<String, IoFault> {
     let mut shown = String::new(alloc);
     for byte in name {
         let is_printable = *byte >= 0x20 && *byte < 0x7f;

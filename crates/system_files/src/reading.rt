@@ -10,12 +10,12 @@ ghost use Rattle.system_files.specs.Prefixes.{IsPrefix};
 ghost use Rattle.system_files.specs.Takes.{IsTakenOf};
 ghost use Rattle.system_files.specs.declared.reading.IoFault.TheVariants.{NoMemory};
 
+use crate::Cause;
 use base::{NoMemory, Text};
 use outside::TakeEnd;
 use std::alloc::{AllocError, AllocFailed, Global};
 use std::io;
 use std::io::{ErrorKind, Read};
-use system_causes::Cause;
 
 /// Why a call of the system gave nothing.
 #[derive(Clone, Copy)]
@@ -40,7 +40,7 @@ impl IoFault {
     }
 
     /// A call that gives nothing for a reason of the program's own.
-    pub fn failed(call: &'static str, why: &str) -> IoFault
+    pub fn own_fault(call: &'static str, why: &str) -> IoFault
         ensures { IsFailed result }
     {
         let error = io::Error::other(why);
@@ -108,7 +108,7 @@ pub fn read_prefix<R: Read>(
         }
         kept.extend_from_slice(&buffer[..count])?;
     }
-    Err(IoFault::failed("read", "it has no end"))
+    Err(IoFault::own_fault("read", "it has no end"))
 }
 
 /// Reads to the end and keeps nothing. The buffer is what one read takes at most.
@@ -121,7 +121,7 @@ pub fn drain<R: Read>(reader: &mut R, buffer: &mut [u8]) -> Result<(), IoFault>
             return Ok(());
         }
     }
-    Err(IoFault::failed("read", "it has no end"))
+    Err(IoFault::own_fault("read", "it has no end"))
 }
 
 /// One read, tried again where a signal interrupts it. 0 is the end.
@@ -140,7 +140,7 @@ pub(crate) fn read_some<R: Read>(reader: &mut R, buffer: &mut [u8]) -> Result<us
             Err(error) => return Err(IoFault::of("read", error)),
         }
     }
-    Err(IoFault::failed("read", "it has no end"))
+    Err(IoFault::own_fault("read", "it has no end"))
 }
 
 /// The input to its end. What is past the limit is read too, so that whoever writes it can end.

@@ -3,15 +3,14 @@
 ghost use Rattle.std.specs.Prelude.{Err};
 ghost use Rattle.outside.specs.Counts.{SourceCounts};
 
-use crate::IoFault;
 use crate::buffered::Buffered;
 use crate::lines::{take_line, take_rest};
+use crate::{Cause, IoFault, name_cause};
 use base::NoMemory;
-use outside::{LineEnd, Sink, SinkFault, Source, SourceFault, TakeEnd, counted};
+use outside::{LineEnd, Sink, SinkFault, Source, SourceFault, TakeEnd, count_fault};
 use std::alloc::Global;
 use std::io;
 use std::io::Write;
-use system_causes::{Cause, named};
 
 /// Standard input. It counts its failures, and tells nothing of what it holds.
 #[derive(Drop)]
@@ -53,7 +52,7 @@ impl<R: Input> StdSource<R> {
             IoFault::NoMemory => SourceFault::NoMemory,
             IoFault::Failed(cause) => {
                 self.cause = Some(cause);
-                self.failures = counted(self.failures);
+                self.failures = count_fault(self.failures);
                 SourceFault::Failed
             }
         }
@@ -127,11 +126,11 @@ impl<R: Print> Sink for StdSink<R> {
     ghost failed_puts = { λ a. a.failures };
 
     fn put(&mut self, bytes: &[u8]) -> Result<(), SinkFault> {
-        match named("write", put_whole(&self.output, bytes)) {
+        match name_cause("write", put_whole(&self.output, bytes)) {
             Ok(()) => Ok(()),
             Err(cause) => {
                 self.cause = Some(cause);
-                self.failures = counted(self.failures);
+                self.failures = count_fault(self.failures);
                 Err(SinkFault::Failed)
             }
         }

@@ -1,15 +1,14 @@
 //! The tree: what it was asked for, and its failures.
 
 ghost use Rattle.std.specs.Prelude.{◌≡◌, ◌<◌, ◌++◌, [], ◌∷◌, vec_len, OnOk, OnErr};
-ghost use Rattle.system_files.specs.Untold.{no_file, lists_nothing};
+ghost use Rattle.system_files.specs.UntoldFiles.{no_file, lists_nothing};
 
 use crate::listing::list_names;
-use crate::{IoFault, read_file};
+use crate::{Cause, IoFault, read_file};
 use base::{NoMemory, Text, TextList};
-use outside::{NamesEnd, ReadEnd, Tree, TreeFault, counted};
+use outside::{NamesEnd, ReadEnd, Tree, TreeFault, count_fault};
 use std::alloc::Global;
 use std::fs::Files;
-use system_causes::Cause;
 
 /// The bytes that one read takes at most: most sources come in one.
 const CHUNK: usize = 65536;
@@ -66,7 +65,7 @@ impl<R: Files> FileTree<R> {
 }
 
 impl<R: Files + AllocGlobal + Clone + Drop> Tree for FileTree<R> {
-    ghost use Rattle.system_files.specs.Untold.{untold_same};
+    ghost use Rattle.system_files.specs.UntoldFiles.{untold_same};
 
     ghost tells = { ⊥ };
 
@@ -93,7 +92,7 @@ impl<R: Files + AllocGlobal + Clone + Drop> Tree for FileTree<R> {
             Err(IoFault::NoMemory) => Err(TreeFault::NoMemory),
             Err(IoFault::Failed(cause)) => {
                 self.cause = Some(cause);
-                self.failures = counted(self.failures);
+                self.failures = count_fault(self.failures);
                 Err(TreeFault::Failed)
             }
         }
@@ -109,7 +108,7 @@ impl<R: Files + AllocGlobal + Clone + Drop> Tree for FileTree<R> {
             Err(IoFault::NoMemory) => Err(TreeFault::NoMemory),
             Err(IoFault::Failed(cause)) => {
                 self.cause = Some(cause);
-                self.failures = counted(self.failures);
+                self.failures = count_fault(self.failures);
                 Err(TreeFault::Failed)
             }
         }

@@ -2,26 +2,26 @@
 
 use crate::kept::AllKept;
 use crate::objects::{Told, told_build};
-use crate::plain::{Plain, Way, mark_of, plain_build};
-use crate::shapes::{Project, file_at, given, letter, library};
+use crate::plain::{Plain, Way, plain_build, status_of};
+use crate::shapes::{Project, artefact_of, file_at, letter, library};
 use base::NoMemory;
 use memory_outside::MemDisk;
 use std::alloc::Global;
 use std::process::Abort;
 use std::test::Fail;
 
-/// The marks of a plain build.
-pub(super) fn plain_marks(
+/// The statuses of a plain build.
+pub(super) fn plain_statuses(
     alloc: Global,
     plain: &Plain,
     project: &Project,
     keep_going: bool,
 ) -> Result<Vec<u8>, NoMemory> {
-    let mut marks = Vec::new(alloc);
+    let mut statuses = Vec::new(alloc);
     for position in 0..project.shape.count {
-        marks.push(mark_of(plain, keep_going, file_at(project, position)))?;
+        statuses.push(status_of(plain, keep_going, file_at(project, position)))?;
     }
-    Ok(marks)
+    Ok(statuses)
 }
 
 /// The artefacts of a plain build, where each file is made.
@@ -39,46 +39,46 @@ fn plain_whole(alloc: Global, plain: &Plain, project: &Project) -> Result<Vec<u8
     Ok(whole)
 }
 
-/// What is printed of a file with this mark.
-fn put_file_line(out: &mut Vec<u8>, project: &Project, at: u8, mark: u8) -> Result<(), NoMemory> {
-    if mark == b'f' || mark == b'l' {
+/// What is printed of a file with this status.
+fn put_file_line(out: &mut Vec<u8>, project: &Project, at: u8, status: u8) -> Result<(), NoMemory> {
+    if status == b'f' || status == b'l' {
         return Ok(());
     }
     out.extend_from_slice(b"Compiling into ")?;
     out.extend_from_slice(library(project, at))?;
     out.extend_from_slice(&[b':', b' ', letter(at)])?;
-    if mark == b'c' {
+    if status == b'c' {
         out.extend_from_slice(b" passed\n")?;
-    } else if mark == b's' {
+    } else if status == b's' {
         out.extend_from_slice(b" skipped\n")?;
     } else {
         out.extend_from_slice(b" failed\n")?;
-        out.extend_from_slice(&[letter(at), given(project, at), b'\n'])?;
+        out.extend_from_slice(&[letter(at), artefact_of(project, at), b'\n'])?;
     }
     Ok(())
 }
 
-/// The last line that is printed of these marks.
-fn last_line(marks: &[u8]) -> &'static [u8] {
-    if marks.contains(&b'r') {
+/// The last line that is printed of these statuses.
+fn last_line(statuses: &[u8]) -> &'static [u8] {
+    if statuses.contains(&b'r') {
         return b"Compile failed\n";
     }
-    if marks.contains(&b'c') {
+    if statuses.contains(&b'c') {
         return b"Compile passed\n";
     }
     b"Re-compile not needed\n"
 }
 
-/// What is printed of these marks, which are those of the files in order.
-fn plain_text(alloc: Global, project: &Project, marks: &[u8]) -> Result<Vec<u8>, NoMemory> {
+/// What is printed of these statuses, which are those of the files in order.
+fn plain_text(alloc: Global, project: &Project, statuses: &[u8]) -> Result<Vec<u8>, NoMemory> {
     let mut out = Vec::new(alloc);
     for position in 0..8u8 {
-        if (position as usize) < marks.len() {
+        if (position as usize) < statuses.len() {
             let at = file_at(project, position);
-            put_file_line(&mut out, project, at, marks[position as usize])?;
+            put_file_line(&mut out, project, at, statuses[position as usize])?;
         }
     }
-    out.extend_from_slice(last_line(marks))?;
+    out.extend_from_slice(last_line(statuses))?;
     Ok(out)
 }
 
@@ -96,12 +96,12 @@ pub(super) fn agree(
     if plain.fault.is_some() {
         return Ok(told.fault == plain.fault);
     }
-    let marks = plain_marks(alloc, plain, project, keep_going)?;
+    let statuses = plain_statuses(alloc, plain, project, keep_going)?;
     let whole = plain_whole(alloc, plain, project)?;
-    let printed = plain_text(alloc, project, marks.as_slice())?;
+    let printed = plain_text(alloc, project, statuses.as_slice())?;
     Ok(
         told.fault.is_none()
-            && told.marks.as_slice() == marks.as_slice()
+            && told.statuses.as_slice() == statuses.as_slice()
             && told.whole.as_slice() == whole.as_slice()
             && told.text.as_slice() == printed.as_slice(),
     )

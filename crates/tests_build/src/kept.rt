@@ -1,7 +1,7 @@
 //! Records in plain words: of each name what its compiler was asked last, and what it gave.
 
 use crate::sets::has;
-use crate::shapes::{Project, deps_of, file_at, given, letter, library, text, word};
+use crate::shapes::{Project, artefact_of, deps_of, file_at, letter, library, text, word};
 
 /// What a compiler is asked: its word, the text, and the files below, in order, three bytes each: library, path and what the
 /// artefact has after the path.
@@ -32,8 +32,8 @@ pub(super) fn none_kept() -> AllKept {
     [Kept { asked, given: 0 }; 16]
 }
 
-/// The place of the name of a file.
-fn place(project: &Project, at: u8) -> u8 {
+/// The index of the name of a file.
+fn index(project: &Project, at: u8) -> u8 {
     let other = if has(project.moved, at) { 8 } else { 0 };
     at % 8 + other
 }
@@ -66,7 +66,7 @@ fn same_asked(asked: &Asked, other: &Asked) -> bool {
 /// What the latest record of a file gave, where that was asked exactly what would be asked over files with these artefacts;
 /// and else 0.
 pub(super) fn current(kept: &AllKept, project: &Project, made: &[u8; 8], at: u8) -> u8 {
-    let last = &kept[(place(project, at) % 16) as usize];
+    let last = &kept[(index(project, at) % 16) as usize];
     if same_asked(&last.asked, &asked_of(project, made, at)) {
         last.given
     } else {
@@ -76,8 +76,8 @@ pub(super) fn current(kept: &AllKept, project: &Project, made: &[u8; 8], at: u8)
 
 /// Keeps what a file was asked over files with these artefacts, and what its compiler gave.
 pub(super) fn keep(kept: &mut AllKept, project: &Project, made: &[u8; 8], at: u8) {
-    kept[(place(project, at) % 16) as usize] = Kept {
+    kept[(index(project, at) % 16) as usize] = Kept {
         asked: asked_of(project, made, at),
-        given: given(project, at),
+        given: artefact_of(project, at),
     };
 }

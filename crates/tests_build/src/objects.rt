@@ -6,29 +6,28 @@ ghost use Rattle.base.specs.declared.limits.TheConstants.{SLOT_LIMIT};
 use crate::picks::{pick_of, started_for};
 use crate::plain::{NEVER, Way};
 use crate::sets::has;
-use crate::shapes::{Project, file_at, file_of, given, graph_of, input_of, letter, word};
+use crate::shapes::{Project, artefact_of, file_at, file_of, graph_of, input_of, letter, word};
 use base::{
     Event, Exit, Graph, Items, MaybeText, NoMemory, Numbers, Positions, Request, Text, TextList,
 };
-use build_loop::build_marks;
-use build_slots::{Need, plan};
 use memory_outside::{Answer, AnswerList, MemDisk, ScriptProcs, can_answer};
 use outside::{Disk, Procs, Records, StoreFault};
-use report_run::build_text;
-use run_spec::{Mark, MarkList};
-use run_steps::RunFault;
+use report::build_text;
+use run_build::build_statuses;
+use run_scheduler::{Need, plan};
+use run_spec::{FileStatus, FileStatusList, RunFault};
 use std::alloc::Global;
 use std::process::Abort;
 use std::test::Fail;
-use store_requests::RequestStore;
+use store::RequestStore;
 
 /// What a build did and answered, in letters.
 #[derive(Drop)]
 pub(super) struct Told {
     /// `+0` is a start of file 0, `-0` its end with code 0, `!0` its refusal, `?0` its loss.
     pub events: Vec<u8>,
-    /// One letter a mark: fresh, compiled, refused, skipped or left.
-    pub marks: Vec<u8>,
+    /// One letter a status: fresh, compiled, refused, skipped or left.
+    pub statuses: Vec<u8>,
     /// The letter and the text of the artefact of each file, where all are made.
     pub whole: Vec<u8>,
     /// What is printed of the build.
@@ -76,7 +75,7 @@ fn request(alloc: Global, project: &Project, made: &[u8; 8], at: u8) -> Result<R
 fn exit(alloc: Global, project: &Project, at: u8, refused: bool) -> Result<Exit, NoMemory> {
     Ok(Exit {
         code: if refused { 1 } else { 0 },
-        output: Text::from_slice(alloc, &[letter(at), given(project, at)])?,
+        output: Text::from_slice(alloc, &[letter(at), artefact_of(project, at)])?,
         results: MaybeText::Nothing,
     })
 }
@@ -115,38 +114,39 @@ fn script(
 
 /// Whether no child runs.
 fn is_idle(procs: &ScriptProcs) -> bool
-    ensures { IsTrue result → procs.now.book.running ≡ [] }
+    ensures { IsTrue result → procs.now.child_log.running ≡ [] }
 {
-    procs.running().is_empty()
+    procs.running_tickets().is_empty()
 }
 
-/// The marks of a build, and what the store lends of each file in the end where all are made.
+/// The statuses of a build, and what the store lends of each file in the end where all are made.
 #[derive(Drop)]
 struct BuildEnd {
-    marks: MarkList,
+    statuses: FileStatusList,
     whole: Vec<u8>,
 }
 
 /// Whether each file is fresh or compiled.
-fn are_made(marks: &MarkList) -> bool {
-    for mark in marks.as_slice() {
-        match mark {
-            Mark::Fresh | Mark::Compiled => {}
-            Mark::Refused { code: _, output: _ } | Mark::Skipped | Mark::Left => return false,
+fn are_made(statuses: &FileStatusList) -> bool {
+    for status in statuses.as_slice() {
+        match status {
+            FileStatus::Fresh | FileStatus::Compiled => {}
+            FileStatus::Refused { code: _, output: _ } | FileStatus::Skipped | FileStatus::Left =>
+                return false,
         }
     }
     true
 }
 
 /// The artefacts of all files that a store lends, one after the other; a file that has none gives `?`.
-fn lent_whole<K: Records>(
+fn borrowed_whole<K: Records>(
     alloc: Global,
     graph: &Graph,
     store: &K,
-    marks: &MarkList,
+    statuses: &FileStatusList,
 ) -> Result<Vec<u8>, NoMemory> {
     let mut whole = Vec::new(alloc);
-    if !are_made(marks) {
+    if !are_made(statuses) {
         return Ok(whole);
     }
     for entry in graph.as_slice() {
@@ -174,9 +174,9 @@ fn build_in<K: Records, D: Disk, P: Procs>(
     requires usable { K.broken store.old ≡ false }
     requires in_step { D.tells → K.in_step store.old (D.moments disk.old).now }
 {
-    let marks = build_marks(alloc, graph, store, disk, procs, limit, keep_going)?;
-    match lent_whole(alloc, graph, store, &marks) {
-        Ok(whole) => Ok(BuildEnd { marks, whole }),
+    let statuses = build_statuses(alloc, graph, store, disk, procs, limit, keep_going)?;
+    match borrowed_whole(alloc, graph, store, &statuses) {
+        Ok(whole) => Ok(BuildEnd { statuses, whole }),
         Err(NoMemory) => Err(RunFault::NoMemory),
     }
 }
@@ -232,30 +232,30 @@ fn tell_events(alloc: Global, events: &[Event]) -> Result<Vec<u8>, NoMemory> {
     Ok(told)
 }
 
-fn letter_of(mark: &Mark) -> u8 {
-    match mark {
-        Mark::Fresh => b'f',
-        Mark::Compiled => b'c',
-        Mark::Refused { code, output: _ } => { if *code == 1 { b'r' } else { b'x' } }
-        Mark::Skipped => b's',
-        Mark::Left => b'l',
+fn letter_of(status: &FileStatus) -> u8 {
+    match status {
+        FileStatus::Fresh => b'f',
+        FileStatus::Compiled => b'c',
+        FileStatus::Refused { code, output: _ } => { if *code == 1 { b'r' } else { b'x' } }
+        FileStatus::Skipped => b's',
+        FileStatus::Left => b'l',
     }
 }
 
-fn tell_marks(alloc: Global, marks: &MarkList) -> Result<Vec<u8>, NoMemory> {
+fn tell_statuses(alloc: Global, statuses: &FileStatusList) -> Result<Vec<u8>, NoMemory> {
     let mut told = Vec::new(alloc);
-    for mark in marks.as_slice() {
-        told.push(letter_of(mark))?;
+    for status in statuses.as_slice() {
+        told.push(letter_of(status))?;
     }
     Ok(told)
 }
 
-/// What is printed of a build with these marks; nothing where they aren't those of the graph.
-fn tell_text(alloc: Global, graph: &Graph, marks: &MarkList) -> Result<Vec<u8>, NoMemory> {
-    if marks.len() != graph.len() {
+/// What is printed of a build with these statuses; nothing where they aren't those of the graph.
+fn tell_text(alloc: Global, graph: &Graph, statuses: &FileStatusList) -> Result<Vec<u8>, NoMemory> {
+    if statuses.len() != graph.len() {
         return Ok(Vec::new(alloc));
     }
-    let text = build_text(alloc, graph, marks)?;
+    let text = build_text(alloc, graph, statuses)?;
     Ok(Vec::from_slice(alloc, text.bytes())?)
 }
 
@@ -269,14 +269,14 @@ fn tell(
     match end {
         Ok(end) => Ok(Told {
             events,
-            marks: tell_marks(alloc, &end.marks)?,
+            statuses: tell_statuses(alloc, &end.statuses)?,
             whole: Vec::from_slice(alloc, end.whole.as_slice())?,
-            text: tell_text(alloc, graph, &end.marks)?,
+            text: tell_text(alloc, graph, &end.statuses)?,
             fault: None,
         }),
         Err(fault) => Ok(Told {
             events,
-            marks: Vec::new(alloc),
+            statuses: Vec::new(alloc),
             whole: Vec::new(alloc),
             text: Vec::new(alloc),
             fault: Some(*fault),

@@ -10,8 +10,9 @@ pub(super) const USERS: Shape = Shape {
 
 /// The project of a letter. In each the last file depends on all others.
 pub(super) fn shape_of(letter: u8) -> Shape {
+    let users = USERS.deps;
     let (count, deps) = match letter {
-        b'U' => (USERS.count, USERS.deps),
+        b'U' => (USERS.count, users),
         // A package, its user, a file alone, a user of the user.
         b'C' => (5, [0, 0b1, 0, 0b11, 0b1111, 0, 0, 0]),
         // Three files alone.

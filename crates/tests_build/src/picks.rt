@@ -19,7 +19,7 @@ pub fn byte(seed: u32, turn: u32) -> u8 {
     (mixed(seed, turn) % 256) as u8
 }
 
-/// The place that a wait takes, of the first eight waits.
+/// The index that a wait takes, of the first eight waits.
 pub fn pick_of(picks: u32, wait: u32) -> u32 {
     if wait >= 8 {
         return 0;
@@ -37,8 +37,8 @@ pub fn take_child(running: &mut Vec<u8>, picks: u32, wait: u32) -> Option<u8> {
     if count == 0 {
         return None;
     }
-    let place = pick_of(picks, wait) as usize % count;
-    Some(running.remove(place))
+    let index = pick_of(picks, wait) as usize % count;
+    Some(running.remove(index))
 }
 
 /// What a ticket was started for; nothing where it is none.

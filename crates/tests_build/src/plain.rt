@@ -4,9 +4,9 @@
 use crate::kept::{AllKept, current, keep};
 use crate::picks::take_child;
 use crate::sets::{has, with};
-use crate::shapes::{Project, deps_of, file_at, given};
+use crate::shapes::{Project, artefact_of, deps_of, file_at};
 use base::NoMemory;
-use run_steps::RunFault;
+use run_spec::RunFault;
 use std::alloc::Global;
 
 /// Past all calls.
@@ -18,7 +18,7 @@ pub(super) struct Way {
     pub limit: u32,
     pub keep_going: bool,
     pub refused: u8,
-    /// Four bits a wait, the low ones first: the place among the running children, in order of their starts.
+    /// Four bits a wait, the low ones first: the index among the running children, in order of their starts.
     pub picks: u32,
     /// The start or wait that fails, counted from 0.
     pub failing: u32,
@@ -26,7 +26,7 @@ pub(super) struct Way {
     pub failing_commit: u32,
 }
 
-/// A build whose calls don't fail, with a place of four bits for each wait.
+/// A build whose calls don't fail, with an index of four bits for each wait.
 pub(super) fn steady_way(limit: u32, keep_going: bool, refused: u8, picks: u32) -> Way {
     Way {
         limit,
@@ -166,7 +166,7 @@ fn end(plain: &mut Plain, project: &Project, way: &Way, at: u8) -> Result<(), No
         return note(plain, b'!', at);
     }
     plain.compiled = with(plain.compiled, at);
-    plain.made[(at % 8) as usize] = given(project, at);
+    plain.made[(at % 8) as usize] = artefact_of(project, at);
     commit(plain, project, way, at);
     note(plain, b'-', at)
 }
@@ -210,8 +210,8 @@ pub(super) fn plain_build(
     Ok(plain)
 }
 
-/// The mark of a file, as a letter: fresh, compiled, refused, skipped or left.
-pub(super) fn mark_of(plain: &Plain, keep_going: bool, at: u8) -> u8 {
+/// The status of a file, as a letter: fresh, compiled, refused, skipped or left.
+pub(super) fn status_of(plain: &Plain, keep_going: bool, at: u8) -> u8 {
     if has(plain.compiled, at) {
         b'c'
     } else if has(plain.refused, at) {
@@ -229,7 +229,7 @@ pub(super) fn mark_of(plain: &Plain, keep_going: bool, at: u8) -> u8 {
 pub(super) fn late_fresh(plain: &Plain, project: &Project) -> u8 {
     let mut late = 0;
     for at in 0..project.shape.count {
-        if mark_of(plain, true, at) == b'f' && deps_of(project, at) & plain.compiled != 0 {
+        if status_of(plain, true, at) == b'f' && deps_of(project, at) & plain.compiled != 0 {
             late = with(late, at);
         }
     }

@@ -8,7 +8,7 @@ use crate::plain::{NEVER, Plain, Way, plain_build, steady_way};
 use crate::sets::with;
 use crate::shapes::{Project, first};
 use memory_outside::MemDisk;
-use run_steps::RunFault;
+use run_spec::RunFault;
 use std::alloc::Global;
 use std::process::Abort;
 use std::test::Fail;
@@ -16,11 +16,11 @@ use std::test::Fail;
 /// A row a line: what it shows, and builds over one disk that is empty at first, with `|` between two. A build has words: the
 /// letter of its shape, and what is other than at first, as the letters of files after `t` (another text, and another
 /// artefact), `c` (another comment, and the same artefact), `o` (other words of the compiler), `m` (another library) and `n`
-/// (another artefact, whatever is asked), and `s` where the first two files are in the other order; then `p` and the number of slots, where it isn't 1, `k` where the build
-/// goes on after a refusal, `r` and the files that are refused, `f` and the start or wait that fails, counted from 0, and `w` and the
-/// places that waits take among the running children. After `>` come what is started and ends, as in what is told, or `.`
-/// where nothing is; the marks, or the fault; and the letters and artefacts of all files, or `.` where one has none. After `=` come
-/// the marks alone, and after `?` the plan.
+/// (another artefact, whatever is asked), and `s` where the first two files are in the other order; then `p` and the number of slots, where
+/// it isn't 1, `k` where the build goes on after a refusal, `r` and the files that are refused, `f` and the start or wait that fails,
+/// counted from 0, and `w` and the indices that waits take among the running children. After `>` come what is started and ends, as in what
+/// is told, or `.` where nothing is; the statuses, or the fault; and the letters and artefacts of all files, or `.` where one has none.
+/// After `=` come the statuses alone, and after `?` the plan.
 static ROWS: &str = "\
 all files are compiled once|U > +0-0+1-1+2-2+3-3+4-4+5-5 cccccc a1b1c1d1e1f1|U > . ffffff a1b1c1d1e1f1
 a free slot is used before the first wait|U p3 > +0+2-0+1+3-2-1+4-3-4+5-5 cccccc a1b1c1d1e1f1
@@ -161,7 +161,7 @@ fn are(letters: &[u8], word: &str) -> bool {
 /// Whether the marks, or the fault, are these.
 fn ends_so(told: &Told, word: &str) -> bool {
     match &told.fault {
-        None => are(told.marks.as_slice(), word),
+        None => are(told.statuses.as_slice(), word),
         Some(fault) => are(fault_word(fault), word),
     }
 }
@@ -204,7 +204,7 @@ fn goes(
     *kept = plain.kept;
     let told = told_build(rt, alloc, &project, &plain.made, &way, disk)?;
     if sign == b'=' {
-        return Ok(are(told.marks.as_slice(), wanted));
+        return Ok(are(told.statuses.as_slice(), wanted));
     }
     Ok(is(&told, wanted) && agree(alloc, &told, &plain, &project, way.keep_going)?)
 }

@@ -1,6 +1,6 @@
 //! Random projects, refusals, edits and orders of ends, compared with a plain build that is fed the same ends.
 
-use crate::compare::{build_alike, plain_marks};
+use crate::compare::{build_alike, plain_statuses};
 use crate::kept::{AllKept, none_kept};
 use crate::objects::empty_disk;
 use crate::picks::{byte, mixed};
@@ -22,7 +22,7 @@ fn few(seed: u32, turn: u32) -> u8 {
 }
 
 /// These files, and what they depend on.
-fn closed(deps: &[u8; 8], chosen: u8) -> u8 {
+fn close_deps(deps: &[u8; 8], chosen: u8) -> u8 {
     let mut all = chosen;
     for at in 0..8u8 {
         if has(chosen, at) {
@@ -38,7 +38,7 @@ fn shape_of(seed: u32) -> Shape {
     let mut deps = [0u8; 8];
     for at in 0..8u8 {
         let chosen = few(seed, 2u32.wrapping_add(at as u32)) & upto(at);
-        deps[(at % 8) as usize] = closed(&deps, chosen);
+        deps[(at % 8) as usize] = close_deps(&deps, chosen);
     }
     deps[(count.wrapping_sub(1) % 8) as usize] = upto(count.wrapping_sub(1));
     Shape { count, deps }
@@ -56,7 +56,7 @@ fn way_of(seed: u32, limit: u32, keep_going: bool) -> Way {
 }
 
 /// A project of which random files are other than at first: some texts, and in half of all one thing more.
-fn edited(seed: u32, shape: &Shape) -> Project {
+fn edit_files(seed: u32, shape: &Shape) -> Project {
     let mut project = first(shape);
     let files = files_of(&project);
     project.changed = few(seed, 40) & few(seed, 41) & files;
@@ -71,20 +71,20 @@ fn edited(seed: u32, shape: &Shape) -> Project {
     project
 }
 
-/// Whether two plain builds give the same marks.
-fn same_marks(
+/// Whether two plain builds give the same statuses.
+fn same_statuses(
     alloc: Global,
     plain: &Plain,
     other: &Plain,
     project: &Project,
     keep_going: bool,
 ) -> Result<bool, NoMemory> {
-    let marks = plain_marks(alloc, plain, project, keep_going)?;
-    let others = plain_marks(alloc, other, project, keep_going)?;
-    Ok(marks.as_slice() == others.as_slice())
+    let statuses = plain_statuses(alloc, plain, project, keep_going)?;
+    let others = plain_statuses(alloc, other, project, keep_going)?;
+    Ok(statuses.as_slice() == others.as_slice())
 }
 
-/// Builds a copy of a disk that has these records. With keep going, or where nothing is refused, the marks are those of one
+/// Builds a copy of a disk that has these records. With keep going, or where nothing is refused, the statuses are those of one
 /// slot. Says whether a file is found fresh in the middle, over one that was compiled.
 fn build_copy(
     rt: &impl Abort,
@@ -100,7 +100,7 @@ fn build_copy(
         let mut slow = *way;
         slow.limit = 1;
         let other = plain_build(alloc, project, kept, &slow)?;
-        assert!(rt; same_marks(alloc, &plain, &other, project, way.keep_going)?);
+        assert!(rt; same_statuses(alloc, &plain, &other, project, way.keep_going)?);
     }
     Ok(late_fresh(&plain, project) != 0)
 }
@@ -137,7 +137,7 @@ fn project_after(seed: u32, edits: u32) -> Project {
     if edits % 2 == 0 {
         first(&shape)
     } else {
-        edited(other, &shape)
+        edit_files(other, &shape)
     }
 }
 

@@ -45,14 +45,14 @@ pub(super) fn first(shape: &Shape) -> Project {
 }
 
 /// A project of which some files have another text, for which their compilers give another artefact.
-pub(super) fn changed(shape: &Shape, changed: u8) -> Project {
+pub(super) fn change_texts(shape: &Shape, changed: u8) -> Project {
     let mut project = first(shape);
     project.changed = changed;
     project
 }
 
 /// A project of which some files have another comment.
-pub(super) fn commented(shape: &Shape, commented: u8) -> Project {
+pub(super) fn add_comments(shape: &Shape, commented: u8) -> Project {
     let mut project = first(shape);
     project.commented = commented;
     project
@@ -116,7 +116,7 @@ pub(super) fn text(project: &Project, at: u8) -> u8 {
 }
 
 /// What the compiler of a file gives, after the letter of the file. Comments are of no matter to it.
-pub(super) fn given(project: &Project, at: u8) -> u8 {
+pub(super) fn artefact_of(project: &Project, at: u8) -> u8 {
     digit(has(project.changed, at), has(project.newer, at))
 }
 

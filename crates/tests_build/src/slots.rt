@@ -1,8 +1,8 @@
 //! Builds of six files, whose children end in many orders, and whose later files are checked meanwhile.
 
 use base::{Graph, NoMemory};
-use build_slots::{BuildStep, Need, Slots};
-use run_steps::Step;
+use run_scheduler::{BuildScheduler, BuildStep, Need};
+use run_spec::Step;
 use std::alloc::Global;
 use std::process::Abort;
 use std::test::Fail;
@@ -229,41 +229,41 @@ fn ticket_of(at: u32) -> u64 {
     at as u64 * 7 + 1
 }
 
-fn check(rt: &impl Abort, slots: &mut Slots, at: u32, fresh: bool) {
+fn check(rt: &impl Abort, slots: &mut BuildScheduler, at: u32, fresh: bool) {
     match slots.next() {
         BuildStep::Check(found) => {
             assert!(rt; found == at);
-            slots.checked(found, fresh);
+            slots.record_check(found, fresh);
         }
         BuildStep::Run(_) => assert!(rt; false),
     }
 }
 
-fn start(rt: &impl Abort, slots: &mut Slots, at: u32) {
+fn start(rt: &impl Abort, slots: &mut BuildScheduler, at: u32) {
     match slots.next() {
         BuildStep::Run(Step::Start(found)) => {
             assert!(rt; found == at);
-            slots.started(found, ticket_of(at));
+            slots.record_start(found, ticket_of(at));
         }
         BuildStep::Check(_) | BuildStep::Run(Step::Wait | Step::Finished) => assert!(rt; false),
     }
 }
 
-fn end(rt: &impl Abort, slots: &mut Slots, at: u32, ok: bool) {
+fn end(rt: &impl Abort, slots: &mut BuildScheduler, at: u32, ok: bool) {
     assert!(rt; slots.next() == BuildStep::Run(Step::Wait));
     let ticket = ticket_of(at);
     assert!(rt; slots.is_running(ticket));
-    assert!(rt; slots.ended(ticket, ok) == at);
+    assert!(rt; slots.record_end(ticket, ok) == at);
 }
 
-fn lose(rt: &impl Abort, slots: &mut Slots, at: u32) {
+fn lose(rt: &impl Abort, slots: &mut BuildScheduler, at: u32) {
     assert!(rt; slots.next() == BuildStep::Run(Step::Wait));
     let ticket = ticket_of(at);
     assert!(rt; slots.is_running(ticket));
-    assert!(rt; slots.lost(ticket) == at);
+    assert!(rt; slots.record_loss(ticket) == at);
 }
 
-fn go(rt: &impl Abort, slots: &mut Slots, call: Call) {
+fn go(rt: &impl Abort, slots: &mut BuildScheduler, call: Call) {
     match call {
         Checks(at, fresh) => check(rt, slots, at, fresh),
         Starts(at) => start(rt, slots, at),
@@ -280,7 +280,7 @@ fn build(rt: &impl Abort, alloc: Global, row: &Row) -> Result<(), Fail> {
     assert!(rt; needs.len() as u64 == graph.len());
     assert!(rt; row.limit >= 1);
     assert!(rt; row.limit <= 64);
-    let mut slots = Slots::new(alloc, &graph, needs, row.limit, row.keep_going)?;
+    let mut slots = BuildScheduler::new(alloc, &graph, needs, row.limit, row.keep_going)?;
     for call in row.calls {
         go(rt, &mut slots, *call);
     }

@@ -5,10 +5,10 @@ use crate::kept::{AllKept, keep, none_kept};
 use crate::objects::{Told, empty_disk, told_build};
 use crate::parts::USERS;
 use crate::plain::{NEVER, Plain, Way, plain_build, steady_way};
-use crate::shapes::{Project, changed, first, given};
+use crate::shapes::{Project, artefact_of, change_texts, first};
 use memory_outside::MemDisk;
 use outside::{Side, write_durably};
-use run_steps::RunFault;
+use run_spec::RunFault;
 use std::alloc::Global;
 use std::process::Abort;
 use std::test::Fail;
@@ -32,14 +32,14 @@ fn before() -> Project {
 
 /// The users after the package has changed.
 fn after() -> Project {
-    changed(&USERS, 0b1)
+    change_texts(&USERS, 0b1)
 }
 
 /// What artefacts are once all files of a project are compiled.
 fn all_made(project: &Project) -> [u8; 8] {
     let mut made = [0; 8];
     for at in 0..8u8 {
-        made[(at % 8) as usize] = given(project, at);
+        made[(at % 8) as usize] = artefact_of(project, at);
     }
     made
 }

@@ -2,8 +2,8 @@
 use Rattle.std.proofs.Common.{arith, refl}
 use Rattle.base.specs.PresentGraph.{below, listed_from}
 use Rattle.base.specs.View.{part, viewed}
-use Rattle.order_spec.specs.BuildOrder.{file_order, first_free, first_untaken, repeated, taken_after, untaken_dep}
-use Rattle.order_spec.specs.LinkedGraph.{linked, reaches_within}
+use Rattle.order.specs.BuildOrder.{file_order, first_free, first_untaken, repeated, taken_after, untaken_dep}
+use Rattle.order.specs.LinkedGraph.{linked, reaches_within}
 use Rattle.tests_examples.specs.Graphs.{ListedFiles, Orders, Views, Ways}
 
 pub listed_files : ListedFiles
@@ -20,4 +20,4 @@ ways = record { reached = refl; not_back = refl; way = ((0, omega arith, refl), 
 
 pub views : Views
 unfolding part viewed
-views = record { third = refl; places = refl; example = refl; number = refl }
+views = record { third = refl; indices = refl; example = refl; number = refl }

@@ -1,4 +1,4 @@
--- The examples of "Marks, texts and answers", by computation.
+-- The examples of "Statuses, texts and answers", by computation.
 use Rattle.std.proofs.Common.{refl, sym, ⊎_elim}
 use Rattle.std.proofs.lemmas.Bool.{false≢true}
 use Rattle.base.specs.Bytes.{text_bytes}
@@ -11,11 +11,11 @@ use Rattle.run_spec.specs.CleanBuild.{results_after}
 use Rattle.run_spec.specs.Moves.{first_from, is_startable, next_start}
 use Rattle.run_spec.specs.Recorded.{current_by_request, is_same_asked}
 use Rattle.run_spec.specs.Settled.{settle}
-use Rattle.tests_examples.specs.SaidTexts.{FileMarks, HaltedBuilds}
+use Rattle.tests_examples.specs.SaidTexts.{FileStatuses, HaltedBuilds}
 
-pub file_marks : FileMarks
+pub file_statuses : FileStatuses
 unfolding text_bytes all_built_bytes built_bytes compile_input name_bytes below latest after after_all artefact_by built_at has_all upto exit_at output_at results_after settle first_from is_startable next_start current_by_request is_same_asked
-file_marks = record { refused = refl; compiled = refl; steady = refl; some_refused = refl }
+file_statuses = record { refused = refl; compiled = refl; steady = refl; some_refused = refl }
 
 pub halted_builds : HaltedBuilds
 unfolding text_bytes all_built_bytes built_bytes compile_input name_bytes below after after_all artefact_by built_at has_all upto exit_at output_at first_from is_startable next_start

@@ -5,7 +5,7 @@ use Rattle.std.specs.Str.{chars, is_utf8}
 use Rattle.clap.specs.Faults.{defaults_fault, flags_fault, walk_fault}
 use Rattle.clap.specs.Walk.{bundle_met, walked}
 use Rattle.base.specs.PresentGraph.{below, listed_from}
-use Rattle.run_command_line.specs.Words.{setting_of}
+use Rattle.vunit_arguments.specs.Arguments.{setting_of}
 use Rattle.project_file.specs.Csv.{added_by, csv_file_of, files_after, name_fault}
 use Rattle.project_reading.specs.Asked.{project_paths}
 use Rattle.project_reading.specs.Reading.{project_in, project_reading, scanned_reading, scans_of, texts_of, wanted_tests}

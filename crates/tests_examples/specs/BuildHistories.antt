@@ -3,7 +3,7 @@ use Rattle.std.specs.Prelude.{◌≡◌, ◌∷◌, Bool, true, false, List, [],
 use Rattle.outside.specs.Commits.{last_state}
 use Rattle.outside.specs.Disks.{DiskState, Image, settled_disk}
 use Rattle.outside.specs.Records.{Record}
-use Rattle.run_histories.specs.Histories.{Order, empty_image, latest_over, work_over}
+use Rattle.run_spec.specs.Histories.{Order, empty_image, latest_over, work_over}
 use Rattle.tests_examples.specs.Example.{Ra, a_built, a_name, files}
 
 -- to build a.vhd and b.vhd with one slot until a refusal, over what is recorded or, if clean, over nothing

@@ -1,12 +1,12 @@
 -- The examples of "The graph".
 use Rattle.std.specs.Prelude.{◌≡◌, ℕ, ◌+◌, ◌^◌, ◌∷◌, true, false, List, [], map, codes}
 use Rattle.base.specs.PresentGraph.{below, listed}
-use Rattle.base.specs.View.{place_in, view, viewed}
+use Rattle.base.specs.View.{rank_in, view, viewed}
 use Rattle.base.specs.declared.file.FileName.{FileName}
 use Rattle.base.specs.declared.graph.Entry.{Entry}
 use Rattle.base.specs.declared.project.ProjectFile.{ProjectFile}
-use Rattle.order_spec.specs.BuildOrder.{Cyclic, Ordered, all_taken, deps_in, file_order}
-use Rattle.order_spec.specs.LinkedGraph.{IsWay, linked, reaches}
+use Rattle.order.specs.BuildOrder.{Cyclic, Ordered, all_taken, deps_in, file_order}
+use Rattle.order.specs.LinkedGraph.{IsWay, linked, reaches}
 use Rattle.tests_examples.specs.Example.{a_name, b_name, command, file, files, name}
 
 -- of a, b and c: b depends on a and c
@@ -61,6 +61,6 @@ pub record Ways : Type 0 where
 -- views and their positions
 pub record Views : Type 0 where
   pub third : view packages 2 ≡ letter_file 97 [] ∷ letter_file 99 (0 ∷ []) ∷ []
-  pub places : viewed packages 2 ≡ 0 ∷ 2 ∷ []
+  pub indices : viewed packages 2 ≡ 0 ∷ 2 ∷ []
   pub example : view files 1 ≡ files
-  pub number : place_in (0 ∷ 2 ∷ []) 2 ≡ 1
+  pub number : rank_in (0 ∷ 2 ∷ []) 2 ≡ 1

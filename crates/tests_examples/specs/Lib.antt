@@ -9,7 +9,7 @@ pub mod StoredRequests
 pub mod SaidTexts
 pub mod OutsideObjects
 pub mod WordsAndSources
-pub mod AskedJobs
+pub mod AskedTasks
 pub mod RunReadings
 pub mod MadeFiles
 pub mod BuildHistories

@@ -5,12 +5,12 @@ use Rattle.base.specs.declared.child.Event.TheVariants.{Ended, Gone, Started}
 use Rattle.outside.specs.FaultCounts.{BuildFaultCounts}
 use Rattle.run_spec.specs.ChildJournal.{Work}
 use Rattle.run_spec.specs.Settled.{none_current}
-use Rattle.run_steps.specs.Faults.{CountsBy}
-use Rattle.build_loop.specs.Faults.{IsDiskFirst, IsLossFirst, before_loss, given_before_loss, is_all_committed}
-use Rattle.build_loop.specs.Ran.{built_by}
-use Rattle.run_steps.specs.declared.fault.RunFault.TheVariants.{ChildLost, DiskFailed, StartFailed}
+use Rattle.run_spec.specs.Faults.{CountsBy}
+use Rattle.run_build.specs.Faults.{IsDiskFirst, IsLossFirst, before_loss, given_before_loss, is_all_committed}
+use Rattle.run_build.specs.Ran.{built_by}
+use Rattle.run_spec.specs.declared.fault.RunFault.TheVariants.{ChildLost, DiskFailed, StartFailed}
 use Rattle.tests_examples.specs.Example.{a_built, a_request, b_built, b_request, events, exit, file, name, one_slot, with_end_of_b}
-use Rattle.run_steps.specs.declared.fault.RunFault.TheVariants as fault
+use Rattle.run_spec.specs.declared.fault.RunFault.TheVariants as fault
 
 -- b ends with code 1
 abbrev b_refused : List Event

@@ -2,7 +2,7 @@
 use Rattle.std.specs.Prelude.{◌≡◌, ℕ, true, false, [], Some, None, codes}
 use Rattle.base.specs.declared.child.MaybeText.TheVariants.{Given}
 use Rattle.outside.specs.FaultCounts.{NoRunCountFell, RunFaultCounts, no_faults}
-use Rattle.run_histories.specs.Histories.{Order}
+use Rattle.run_spec.specs.Histories.{Order}
 use Rattle.run_build.specs.Building.{has_risen}
 use Rattle.vunit_top.specs.Reading.{Bad, Builds, Child, Compiler, Exports, Lists, ListsTests, Over, Stops}
 use Rattle.vunit_top.specs.Said.{Causes, HasEnded, Said, Says, order_of, plan_in, report_path_of}
@@ -10,7 +10,7 @@ use Rattle.tests_examples.specs.Example.{files}
 use Rattle.base_outcomes.specs.declared.outcome.Outcome.TheVariants as outcome
 use Rattle.base_outcomes.specs.declared.outcome.Refusal.TheVariants as refusal
 use Rattle.base_outcomes.specs.declared.outcome.Limit.TheVariants as limit
-use Rattle.base_outcomes.specs.declared.outcome.Which.TheVariants as which
+use Rattle.base_outcomes.specs.declared.outcome.OutsideObject.TheVariants as which
 
 -- to build a.vhd and b.vhd with three slots until a refusal, over no records
 abbrev order : Order

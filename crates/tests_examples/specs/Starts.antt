@@ -4,18 +4,18 @@ use Rattle.base.specs.declared.child.Event.{Event}
 use Rattle.base.specs.declared.child.Event.TheVariants.{Ended, Gone, Started}
 use Rattle.base.specs.declared.child.MaybeText.TheVariants.{Given}
 use Rattle.outside.specs.Records.{latest}
-use Rattle.run_spec.specs.ChildJournal.{Answered, IsWhole, Lawful, artefact_after, book_of, job_of, next_position, output_at, since, starts_of}
+use Rattle.run_spec.specs.ChildJournal.{Answered, IsWhole, Lawful, artefact_after, progress_of, workload_of, next_position, output_at, since, starts_of}
 use Rattle.run_spec.specs.Commits.{work_of}
 use Rattle.run_spec.specs.JournalParts.{compile_part}
-use Rattle.run_spec.specs.Moves.{Core, Ends, GreedyMoves, Halts, IsFinished, IsGreedyMove, IsLawfulMove, Job, LawfulMoves, Move, Starts, after_moves, empty_core, is_running, position_of, start_now}
+use Rattle.run_spec.specs.Moves.{SchedulerState, Ends, GreedyMoves, Halts, IsFinished, IsGreedyMove, IsLawfulMove, Workload, LawfulMoves, Move, Starts, after_moves, empty_schedule, is_running, position_of, start_now}
 use Rattle.tests_examples.specs.Example.{Ra, a_built, a_request, accepting, b_request, command, events, exit, files, one_slot, work_with}
 
 -- the order of two files of which b depends on a, both due, with one slot
-abbrev two : Bool → Job
-two keep_going = job_of (work_with 1 keep_going)
+abbrev two : Bool → Workload
+two keep_going = workload_of (work_with 1 keep_going)
 
 -- of three files without dependencies and three slots
-abbrev three : Job
+abbrev three : Workload
 three = record { count = 3; deps = λ position. []; is_made = λ ended position. is_some (output_at ended position); slots = 3; keep_going = false }
 
 -- the file at position 0 starts as child 7, and hasn't ended
@@ -35,8 +35,8 @@ abbrev a_refused : List Move
 a_refused = Starts 0 7 ∷ Ends 7 false (codes "no") ∷ []
 
 -- what is started and ended after these moves, the first of which finds nothing started
-abbrev so_far : Job → List Move → Core
-so_far job moves = after_moves job empty_core moves
+abbrev so_far : Workload → List Move → SchedulerState
+so_far task moves = after_moves task empty_schedule moves
 
 -- what a journal has since
 pub record Journals : Type 0 where
@@ -47,7 +47,7 @@ pub record Journals : Type 0 where
 
 -- which file is to be started now
 pub record NextStarts : Type 0 where
-  pub at_first : start_now (two false) empty_core ≡ Some 0
+  pub at_first : start_now (two false) empty_schedule ≡ Some 0
   pub while_a_runs : start_now (two false) (so_far (two false) runs_a) ≡ None
   pub after_a : start_now (two false) (so_far (two false) made_a) ≡ Some 1
   pub at_last : start_now (two false) (so_far (two false) both) ≡ None
@@ -59,21 +59,21 @@ pub record NextStarts : Type 0 where
 
 -- lawful, greedy and finished moves
 pub record LawfulStarts : Type 0 where
-  pub lawful : LawfulMoves (two false) empty_core both
-  pub greedy : GreedyMoves (two false) empty_core both
+  pub lawful : LawfulMoves (two false) empty_schedule both
+  pub greedy : GreedyMoves (two false) empty_schedule both
   pub finished : IsFinished (two false) (so_far (two false) both)
   pub refused_finished : IsFinished (two false) (so_far (two false) a_refused)
   pub goes_on_finished : IsFinished (two true) (so_far (two true) a_refused)
   -- starts 0, 1 and 2, and then ends in another order
-  pub any_order : LawfulMoves three empty_core (Starts 0 1 ∷ Starts 1 2 ∷ Starts 2 3 ∷ Ends 3 true [] ∷ Ends 1 true [] ∷ Ends 2 true [] ∷ [])
-  pub early_end : LawfulMoves three empty_core (Starts 0 1 ∷ Ends 1 true [] ∷ Starts 1 2 ∷ [])
+  pub any_order : LawfulMoves three empty_schedule (Starts 0 1 ∷ Starts 1 2 ∷ Starts 2 3 ∷ Ends 3 true [] ∷ Ends 1 true [] ∷ Ends 2 true [] ∷ [])
+  pub early_end : LawfulMoves three empty_schedule (Starts 0 1 ∷ Ends 1 true [] ∷ Starts 1 2 ∷ [])
   pub early_start : start_now three (so_far three (Starts 0 1 ∷ [])) ≡ Some 1
   pub never_started : is_running (so_far (two false) runs_a) 5 ≡ false
   pub ended_twice : is_running (so_far (two false) made_a) 7 ≡ false
 
 -- what has happened after one move
 pub record SoFar : Type 0 where
-  pub is_lawful : IsLawfulMove (two false) empty_core (Starts 0 7)
+  pub is_lawful : IsLawfulMove (two false) empty_schedule (Starts 0 7)
   pub taken : (so_far (two false) runs_a).taken ≡ 0 ∷ []
   pub position : position_of 7 (so_far (two false) runs_a).running ≡ Some 0
   pub no_position : position_of 8 (so_far (two false) runs_a).running ≡ None
@@ -84,9 +84,9 @@ pub record SoFar : Type 0 where
 
 -- the events of a build
 pub record BuildEvents : Type 0 where
-  pub taken : (book_of one_slot (take 1 events)).taken ≡ 0 ∷ []
-  pub none_next : next_position one_slot (book_of one_slot (take 1 events)) ≡ None
-  pub next : next_position one_slot (book_of one_slot (take 2 events)) ≡ Some 1
+  pub taken : (progress_of one_slot (take 1 events)).taken ≡ 0 ∷ []
+  pub none_next : next_position one_slot (progress_of one_slot (take 1 events)) ≡ None
+  pub next : next_position one_slot (progress_of one_slot (take 2 events)) ≡ Some 1
   pub no_artefact : artefact_after one_slot (take 1 events) 0 ≡ None
   pub artefact : artefact_after one_slot (take 2 events) 0 ≡ Some (codes "1")
   pub lawful : Lawful one_slot events

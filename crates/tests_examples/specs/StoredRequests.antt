@@ -4,11 +4,11 @@ use Rattle.base.specs.declared.file.FileName.{FileName}
 use Rattle.base.specs.declared.graph.BuiltFile.{BuiltFile}
 use Rattle.base.specs.declared.graph.Entry.{Entry}
 use Rattle.outside.specs.Records.{Record, latest_alone}
-use Rattle.store_codec.specs.Carrying.{carried_from, compacted_requests, none_carried}
-use Rattle.base_ranges.specs.TextRefs.{ByNumber, InFull, TextRef}
+use Rattle.store_codec.specs.Compaction.{compacted_from, compacted_requests, none_compacted}
+use Rattle.base_bytes.specs.TextRefs.{ByNumber, InFull, TextRef}
 use Rattle.store_codec.specs.Forms.{RequestDraft}
-use Rattle.store_codec.specs.Shelves.{bare_shelf, is_request, request_shelf_of, requests_among}
-use Rattle.store_carry.specs.Plans.{blocks_length}
+use Rattle.store_codec.specs.RecordTables.{bare_table, is_request, record_table_of, requests_among}
+use Rattle.store.specs.Plans.{blocks_length}
 use Rattle.tests_examples.specs.Example.{a_file, a_name, b_name, built, command, file, recorded}
 
 -- library, path and the one command word of a file
@@ -61,8 +61,8 @@ first_draft = draft a_name (InFull (codes "x")) [] (InFull (codes "y"))
 
 -- the texts, products and records of payloads
 pub record ShelvedRequests : Type 0 where
-  pub texts : (request_shelf_of (first ∷ second ∷ [])).texts ≡ codes "x" ∷ codes "y" ∷ codes "z" ∷ []
-  pub products : (request_shelf_of (first ∷ second ∷ [])).products ≡ y_built ∷ built b_name (codes "z") ∷ []
+  pub texts : (record_table_of (first ∷ second ∷ [])).texts ≡ codes "x" ∷ codes "y" ∷ codes "z" ∷ []
+  pub products : (record_table_of (first ∷ second ∷ [])).products ≡ y_built ∷ built b_name (codes "z") ∷ []
   pub both : requests_among (first ∷ second ∷ []) ≡ two_records
   -- a payload whose texts are there already, and one over a product that isn't there, stand for nothing
   pub repeated : requests_among (first ∷ first ∷ []) ≡ recorded a_file [] (codes "y") ∷ []
@@ -70,10 +70,10 @@ pub record ShelvedRequests : Type 0 where
   -- a product alone is no record, and one may be over it
   pub product_alone : requests_among (product ∷ []) ≡ []
   pub over_alone : requests_among (product ∷ over_product ∷ []) ≡ recorded same_text (y_built ∷ []) (codes "z") ∷ []
-  pub adds_itself : is_request bare_shelf first_draft ≡ true
-  pub there_already : is_request (request_shelf_of (first ∷ [])) first_draft ≡ false
+  pub adds_itself : is_request bare_table first_draft ≡ true
+  pub there_already : is_request (record_table_of (first ∷ [])) first_draft ≡ false
   -- nor is a file below itself
-  pub below_itself : is_request (request_shelf_of (first ∷ [])) (draft a_name (ByNumber 0) (0 ∷ []) (ByNumber 1)) ≡ false
+  pub below_itself : is_request (record_table_of (first ∷ [])) (draft a_name (ByNumber 0) (0 ∷ []) (ByNumber 1)) ≡ false
 
 -- what compaction keeps: the product that b.vhd is over alone, b.vhd, and the newer a.vhd
 pub record CompactedRequests : Type 0 where
@@ -81,4 +81,4 @@ pub record CompactedRequests : Type 0 where
   pub payloads : compacted_requests (two_records ++ newer_record ∷ []) ≡ product ∷ over_product ∷ newer ∷ []
   pub kept : requests_among (product ∷ over_product ∷ newer ∷ []) ≡ latest_alone (two_records ++ newer_record ∷ [])
   -- how many bytes they take, each behind its gate
-  pub count : blocks_length (carried_from none_carried (latest_alone (two_records ++ newer_record ∷ []))).payloads ≡ 132
+  pub count : blocks_length (compacted_from none_compacted (latest_alone (two_records ++ newer_record ∷ []))).payloads ≡ 132

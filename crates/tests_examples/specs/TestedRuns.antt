@@ -6,22 +6,22 @@ use Rattle.base.specs.declared.child.Exit.{Exit}
 use Rattle.base.specs.declared.child.MaybeText.TheVariants.{Given}
 use Rattle.base.specs.declared.child.Request.{Request}
 use Rattle.outside.specs.Records.{latest}
-use Rattle.run_spec.specs.Moves.{IsLawfulMove, Starts, empty_core, start_now}
-use Rattle.run_spec.specs.declared.marks.Mark.TheVariants.{Compiled}
-use Rattle.test_spec.specs.BenchJobs.{bench_request}
-use Rattle.test_spec.specs.declared.ends.RunEnd.{RunEnd}
-use Rattle.test_spec.specs.declared.ends.Verdict.TheVariants.{Failed, Passed, Skipped}
-use Rattle.test_spec.specs.declared.runs.TestRun.{TestRun}
-use Rattle.run_steps.specs.Steps.{step_at}
-use Rattle.run_steps.specs.declared.step.Step.TheVariants.{Start, Wait}
-use Rattle.test_journal.specs.TestJournal.{LawfulTests, TestSetting, book_of_tests, test_job}
-use Rattle.report_verdicts.specs.Counts.{tests_outcome}
-use Rattle.report_verdicts.specs.TestTexts.{test_text}
-use Rattle.report_tested.specs.Said.{run_said}
-use Rattle.report_tested.specs.declared.said.TestWords.{TestWords}
-use Rattle.test_loop.specs.Requests.{lent_files}
-use Rattle.test_loop.specs.Results.{test_ends}
-use Rattle.run_tested_laws.specs.Libraries.{libraries}
+use Rattle.run_spec.specs.Moves.{IsLawfulMove, Starts, empty_schedule, start_now}
+use Rattle.run_spec.specs.declared.statuses.FileStatus.TheVariants.{Compiled}
+use Rattle.testbench_runs.specs.BenchJobs.{bench_request}
+use Rattle.testbench_runs.specs.declared.ends.RunEnd.{RunEnd}
+use Rattle.testbench_runs.specs.declared.ends.Verdict.TheVariants.{Failed, Passed, Skipped}
+use Rattle.testbench_runs.specs.declared.runs.TestRun.{TestRun}
+use Rattle.run_spec.specs.Steps.{step_at}
+use Rattle.run_spec.specs.declared.step.Step.TheVariants.{Start, Wait}
+use Rattle.run_spec.specs.TestJournal.{LawfulTests, TestSetting, progress_of_tests, test_workload}
+use Rattle.report.specs.Counts.{tests_outcome}
+use Rattle.report.specs.TestTexts.{test_text}
+use Rattle.report.specs.Said.{run_said}
+use Rattle.report.specs.declared.said.TestWords.{TestWords}
+use Rattle.run_tests.specs.Requests.{borrowed_files}
+use Rattle.run_tests.specs.Results.{test_ends}
+use Rattle.run_tests.specs.Libraries.{libraries}
 use Rattle.tests_examples.specs.Example.{Ra, a_built, command, compiler, exit, files}
 use Rattle.base_outcomes.specs.declared.outcome.Outcome.TheVariants as outcome
 
@@ -79,21 +79,21 @@ passed_exit = record { code = 0; output = []; results = Given (codes "test_start
 
 -- which of two simulators is started next, before and after the end of the first
 pub record MovesOfTests : Type 0 where
-  pub count : (test_job (two_runs false)).count ≡ 2
-  pub lawful : IsLawfulMove (test_job (two_runs false)) empty_core (Starts 0 7)
-  pub taken : (book_of_tests (two_runs false) (end_of_first failed_exit)).core.taken ≡ 0 ∷ []
-  pub ended : (book_of_tests (two_runs false) (end_of_first failed_exit)).ends ≡ record { position = 0; exit = failed_exit } ∷ []
-  pub next : start_now (test_job (two_runs false)) (book_of_tests (two_runs false) (end_of_first failed_exit)).core ≡ Some 1
-  pub last : start_now (test_job (two_runs true)) (book_of_tests (two_runs true) (end_of_first failed_exit)).core ≡ None
+  pub count : (test_workload (two_runs false)).count ≡ 2
+  pub lawful : IsLawfulMove (test_workload (two_runs false)) empty_schedule (Starts 0 7)
+  pub taken : (progress_of_tests (two_runs false) (end_of_first failed_exit)).schedule.taken ≡ 0 ∷ []
+  pub ended : (progress_of_tests (two_runs false) (end_of_first failed_exit)).ends ≡ record { position = 0; exit = failed_exit } ∷ []
+  pub next : start_now (test_workload (two_runs false)) (progress_of_tests (two_runs false) (end_of_first failed_exit)).schedule ≡ Some 1
+  pub last : start_now (test_workload (two_runs true)) (progress_of_tests (two_runs true) (end_of_first failed_exit)).schedule ≡ None
   pub is_lawful : LawfulTests (two_runs false) (end_of_first failed_exit)
-  pub waits : step_at (test_job (two_runs false)) (book_of_tests (two_runs false) (take 1 (end_of_first passed_exit))).core ≡ Wait
-  pub at_first : step_at (test_job (two_runs false)) empty_core ≡ Start 0
-  pub second_step : step_at (test_job (two_runs false)) (book_of_tests (two_runs false) (end_of_first passed_exit)).core ≡ Start 1
+  pub waits : step_at (test_workload (two_runs false)) (progress_of_tests (two_runs false) (take 1 (end_of_first passed_exit))).schedule ≡ Wait
+  pub at_first : step_at (test_workload (two_runs false)) empty_schedule ≡ Start 0
+  pub second_step : step_at (test_workload (two_runs false)) (progress_of_tests (two_runs false) (end_of_first passed_exit)).schedule ≡ Start 1
 
--- the verdicts where one case of two was run, and the built files that its simulator is lent
+-- the verdicts where one case of two was run, and the built files that its simulator is borrowed
 pub record EndsOfTests : Type 0 where
   pub verdicts_of : map (λ run. run.verdicts) (test_ends (two_runs false) (end_of_first passed_exit)) ≡ (Passed ∷ []) ∷ (Skipped ∷ []) ∷ []
-  pub lent : lent_files (λ it. latest it (Ra ∷ [])) files ≡ a_built ∷ []
+  pub borrowed : borrowed_files (λ it. latest it (Ra ∷ [])) files ≡ a_built ∷ []
 
 -- a compiler that refuses b
 abbrev refusing_b : Request → Exit

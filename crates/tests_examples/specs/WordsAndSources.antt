@@ -6,16 +6,16 @@ use Rattle.base.specs.declared.file.FileName.{FileName}
 use Rattle.base.specs.declared.graph.Entry.{Entry}
 use Rattle.base.specs.declared.project.ProjectFile.{ProjectFile}
 use Rattle.vhdl_spec.specs.Scans.{Clean, Finding, Grammatical}
-use Rattle.run_command_line.specs.Words.{setting_of}
-use Rattle.run_command_line.specs.declared.setting.Setting.{Setting}
+use Rattle.vunit_arguments.specs.Arguments.{setting_of}
+use Rattle.vunit_arguments.specs.declared.setting.Setting.{Setting}
 use Rattle.project_file.specs.Csv.{listed_command, listed_project}
 use Rattle.project_reading.specs.Asked.{project_paths}
 use Rattle.project_reading.specs.Reading.{project_reading, scans_of}
-use Rattle.project_reading.specs.declared.wish.Wish.{Wish}
+use Rattle.project_reading.specs.declared.query.Query.{Query}
 use Rattle.tests_examples.specs.Example.{a_name, b_name, name}
 use Rattle.base_outcomes.specs.declared.outcome.Refusal.TheVariants as refusal
 use Rattle.project_reading.specs.Reading as sources
-use Rattle.project_reading.specs.declared.wish.Extent.TheVariants as extent
+use Rattle.project_reading.specs.declared.query.QueryKind.TheVariants as query_kind
 
 -- ## Words
 
@@ -68,8 +68,8 @@ abbrev listed_file_of : FileName → ProjectFile
 listed_file_of it = record { name = it; command = listed_command }
 
 -- all of the graph is wanted
-abbrev whole_graph : Wish
-whole_graph = record { extent = extent.Graph; patterns = [] }
+abbrev whole_graph : Query
+whole_graph = record { query_kind = query_kind.Graph; patterns = [] }
 
 -- a file of a graph with its text and the positions of its dependencies, compiled by the program itself
 abbrev child_file : FileName → List ℕ → List ℕ → Entry

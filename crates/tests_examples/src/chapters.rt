@@ -6,10 +6,10 @@ ghost use Rattle.tests_examples.specs.Recorded.{LatestRecords, AskedFiles, Curre
 ghost use Rattle.tests_examples.specs.Starts.{Journals, NextStarts, LawfulStarts, SoFar, BuildEvents, CompileParts};
 ghost use Rattle.tests_examples.specs.JournalSides.{SpelledSides, ImagePayloads};
 ghost use Rattle.tests_examples.specs.StoredRequests.{ShelvedRequests, CompactedRequests};
-ghost use Rattle.tests_examples.specs.SaidTexts.{FileMarks, HaltedBuilds};
+ghost use Rattle.tests_examples.specs.SaidTexts.{FileStatuses, HaltedBuilds};
 ghost use Rattle.tests_examples.specs.OutsideObjects.{EndedChildren, SidesOfDisks, LatestAfter};
 ghost use Rattle.tests_examples.specs.WordsAndSources.{SettingsOfWords, ReadSources};
-ghost use Rattle.tests_examples.specs.AskedJobs.{JobsOfSettings, WholeReadings};
+ghost use Rattle.tests_examples.specs.AskedTasks.{TasksOfSettings, WholeReadings};
 ghost use Rattle.tests_examples.specs.RunReadings.{OrdersOfReadings, EndedRuns, FaultsAnswered};
 ghost use Rattle.tests_examples.specs.MadeFiles.{MadeInTheEnd, AnsweredFaults, GivenBeforeLosses, FirstOfTwoFaults, CountedFaults};
 ghost use Rattle.tests_examples.specs.BuildHistories.{FoundRecords};
@@ -61,9 +61,9 @@ pub fn examples_of_stored_requests()
     ensures compacted_requests { CompactedRequests }
 {}
 
-/// The examples of "Marks, texts and answers".
+/// The examples of "Statuses, texts and answers".
 pub fn examples_of_said_texts()
-    ensures file_marks { FileMarks }
+    ensures file_statuses { FileStatuses }
     ensures halted_builds { HaltedBuilds }
 {}
 
@@ -81,8 +81,8 @@ pub fn examples_of_words_and_sources()
 {}
 
 /// The examples of "Reading: what words and sources say".
-pub fn examples_of_asked_jobs()
-    ensures jobs_of_settings { JobsOfSettings }
+pub fn examples_of_asked_tasks()
+    ensures tasks_of_settings { TasksOfSettings }
     ensures whole_readings { WholeReadings }
 {}
 

@@ -7,7 +7,7 @@ use Rattle.std.proofs.lemmas.List.Quantifiers.{all_pairs_push}
 use Rattle.std.proofs.lemmas.List.Folds.{list_any_at, list_any_none}
 use Rattle.base.specs.declared.graph.Entry.{Entry}
 use Rattle.base.specs.Names.{is_same_name, has_name}
-use Rattle.base_name_set.proofs.SameNames.{same_names, names_same}
+use Rattle.base_collections.proofs.SameNames.{same_names, names_same}
 
 abbrev pub Distinct : List Entry → Type 0
 Distinct entries = AllPairs (λ entry other. entry.name ≢ other.name) entries

@@ -8,8 +8,8 @@ use Rattle.base.specs.declared.graph.Entry.{Entry}
 use Rattle.tests_graphs.specs.Reading.{record_read_at}
 use Rattle.tests_graphs.specs.Spelling.{IsRecord}
 use Rattle.tests_graphs.specs.Reading.{record_in}
-use Rattle.store_node_codec.specs.Views.{is_view}
-use Rattle.store_node_codec.proofs.Deciding.{is_view-Decides}
+use Rattle.store_form_2.specs.Views.{is_view}
+use Rattle.store_form_2.proofs.Deciding.{is_view-Decides}
 use Rattle.base.specs.declared.limits.TheConstants.{ARTEFACT_LIMIT}
 
 abbrev passes : List Entry → List ℕ → Bool

@@ -1,7 +1,7 @@
 -- The lemmas.
 pub mod Spelled
 pub mod Records
-pub mod Marks
+pub mod Flags
 pub mod Closings
 pub mod Distinct
 pub mod Standing

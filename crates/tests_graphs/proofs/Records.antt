@@ -10,7 +10,7 @@ use Rattle.base.specs.Jobs.{name_bytes}
 use Rattle.base_bytes.specs.Reading.{◌>>=◌, AreBytes, Takes, number_at, text_at, counted_at}
 use Rattle.base_bytes.specs.Names.{name_at}
 use Rattle.base_bytes.proofs.Fields.{bind_some, guard_ended, Takes-then, ends_there, u32_takes, u32_again, text_takes, text_again}
-use Rattle.base_bytes.proofs.Many.{by_recursion, by_place, counted_take, counted_again}
+use Rattle.base_bytes.proofs.Many.{by_recursion, by_index, counted_take, counted_again}
 use Rattle.base_bytes.proofs.NameFields.{name_takes, name_again}
 use Rattle.tests_graphs.specs.Spelling.{words_bytes, positions_bytes, entry_bytes, record_bytes, HasSpelling, IsRecord}
 use Rattle.tests_graphs.specs.Reading.{entry_at, record_read_at}
@@ -38,7 +38,7 @@ entry_takes bytes entry left fits e =
     let e03 = Takes-then bytes (name_bytes a.0.0) a.0.1 (words_bytes b.0.0 ++ (text_bytes c.0.0 ++ positions_bytes d.0.0)) d.0.1 t0.0 e13 in
     let made : Entry × List ℕ = (record { name = a.0.0; command = b.0.0; text = c.0.0; deps = d.0.0 }, d.0.1) in
     subst (λ (y : Entry × List ℕ). Takes bytes (entry_bytes y.0) y.1 × HasSpelling y.0) (same_Some made (entry, left) d.2)
-    (e03, record { library = t0.1.library; path = t0.1.path; count = t1.1; words = by_place TextFits b.0.0 t1.2; text = t2.1; few = t3.1; deps = by_place NumberFits d.0.0 t3.2 })
+    (e03, record { library = t0.1.library; path = t0.1.path; count = t1.1; words = by_index TextFits b.0.0 t1.2; text = t2.1; few = t3.1; deps = by_index NumberFits d.0.0 t3.2 })
 
 entry_again : (entry : Entry) (left : List ℕ) → HasSpelling entry → entry_at (entry_bytes entry ++ left) ≡ Some (entry, left)
 unfolding entry_at entry_bytes words_bytes positions_bytes

@@ -5,7 +5,7 @@ use Rattle.base.specs.declared.graph.Entry.{Entry}
 use Rattle.base_bytes.specs.Reading.{◌>>=◌, number_at, text_at, counted_at}
 use Rattle.base_bytes.specs.Names.{name_at}
 use Rattle.base.specs.declared.limits.TheConstants.{ARTEFACT_LIMIT}
-use Rattle.store_node_codec.specs.Views.{is_view}
+use Rattle.store_form_2.specs.Views.{is_view}
 
 -- a file: its name, its command, its text, and the positions that it depends on, of four bytes each; and the bytes after it
 unfoldable pub entry_at : List ℕ → Option (Entry × List ℕ)

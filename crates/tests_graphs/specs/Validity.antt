@@ -16,7 +16,7 @@ pub record IsSeen (deps : List ℕ) (count : ℕ) (state : List ℕ) (done : ℕ
   pub held : (k : ℕ) → k < done → slice_index state (slice_index deps k) ≡ 1
   pub only : (position : ℕ) → (slice_index state position ≡ 0) ⊎ ((slice_index state position ≡ 1) × Contains deps position)
 
--- marks that became 2 are those of the first positions
+-- flags that became 2 are those of the first positions
 abbrev pub Covers : List ℕ → List ℕ → List ℕ → ℕ → Type 0
 Covers deps old new done = (position : ℕ) → (slice_index new position ≡ slice_index old position) ⊎ ((slice_index new position ≡ 2) × (slice_index old position ≢ 0) × Contains deps position)
 
@@ -24,10 +24,10 @@ Covers deps old new done = (position : ℕ) → (slice_index new position ≡ sl
 abbrev pub HoldsAll : List Entry → List ℕ → Type 0
 HoldsAll entries deps = (other : Entry) → All (λ dep. All (Contains deps) (slice_index_or entries dep other).deps) deps
 
--- the file at a place holds the dependencies of its dependencies
+-- the file at a rank holds the dependencies of its dependencies
 abbrev pub HasClosedDeps : List Entry → ℕ → Type 0
-HasClosedDeps entries place = (entry : Entry) → HoldsAll entries (slice_index_or entries place entry).deps
+HasClosedDeps entries rank = (entry : Entry) → HoldsAll entries (slice_index_or entries rank entry).deps
 
 -- its dependencies come before it
 abbrev pub IsBefore : List Entry → ℕ → Type 0
-IsBefore entries place = (entry : Entry) → All (λ dep. dep < place) (slice_index_or entries place entry).deps
+IsBefore entries rank = (entry : Entry) → All (λ dep. dep < rank) (slice_index_or entries rank entry).deps

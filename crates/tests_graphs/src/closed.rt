@@ -1,4 +1,4 @@
-//! Whether the dependencies of each file hold their own, by marks.
+//! Whether the dependencies of each file hold their own, by flags.
 
 ghost use Rattle.std.specs.Prelude.{◌≡◌, ◌≢◌, ◌↔◌, ℕ, ◌<◌, ◌≤◌, length, All, slice_index, IsTrue, IfOk, IfSome};
 ghost use Rattle.tests_graphs.specs.Validity.{Covers, IsSeen, HasClosedDeps, IsBefore, HoldsAll};
@@ -6,8 +6,8 @@ ghost use Rattle.tests_graphs.specs.Validity.{Covers, IsSeen, HasClosedDeps, IsB
 use base::{Entry, NoMemory};
 use std::alloc::Global;
 
-/// A mark 1 at each of the positions, and 0 at all others.
-fn marked(alloc: Global, count: usize, deps: &[u32]) -> Result<Vec<u8>, NoMemory>
+/// A flag 1 at each of the positions, and 0 at all others.
+fn visited_flags(alloc: Global, count: usize, deps: &[u32]) -> Result<Vec<u8>, NoMemory>
     requires { All (λ dep. dep < count) deps.now }
     ensures { IfOk result (λ state. IsSeen deps.now count state.items (length deps.now)) }
 {
@@ -18,12 +18,12 @@ fn marked(alloc: Global, count: usize, deps: &[u32]) -> Result<Vec<u8>, NoMemory
     Ok(state)
 }
 
-/// Whether all positions are marked. Where they are, their marks become 2.
+/// Whether all positions are marked. Where they are, their flags become 2.
 fn cover(state: &mut [u8], deps: &[u32]) -> bool
     requires { All (λ dep. dep < length state.old) deps.now }
     ensures length { length state.new ≡ length state.old }
     ensures held { IsTrue result → All (λ dep. slice_index state.old dep ≢ 0) deps.now }
-    ensures marks { IsTrue result → Covers deps.now state.old state.new (length deps.now) }
+    ensures flags { IsTrue result → Covers deps.now state.old state.new (length deps.now) }
     ensures only { All (λ dep. slice_index state.old dep ≢ 0) deps.now → IsTrue result }
 {
     for dep in deps {
@@ -35,14 +35,14 @@ fn cover(state: &mut [u8], deps: &[u32]) -> bool
     true
 }
 
-/// Whether the dependencies of each dependency are marked. A file whose mark is 2 stands among those of a file that was
+/// Whether the dependencies of each dependency are marked. A file whose flag is 2 stands among those of a file that was
 /// looked at, and is passed over.
 fn all_cover(state: &mut [u8], entries: &[Entry], deps: &[u32]) -> bool
     requires within { All (λ dep. dep < length state.old) deps.now }
     requires few { length state.old ≤ length entries.now }
     requires before { (k : ℕ) → k < length state.old → IsBefore entries.now k }
     requires closed { (k : ℕ) → k < length state.old → HasClosedDeps entries.now k }
-    requires marked { IsSeen deps.now (length state.old) state.old (length deps.now) }
+    requires flagged { IsSeen deps.now (length state.old) state.old (length deps.now) }
     ensures { IsTrue result ↔ HoldsAll entries.now deps.now }
 {
     let mut k = deps.len();
@@ -56,14 +56,14 @@ fn all_cover(state: &mut [u8], entries: &[Entry], deps: &[u32]) -> bool
     true
 }
 
-/// Whether the file at a place holds the dependencies of its dependencies, where all files before it do.
-pub fn is_closed(alloc: Global, entries: &[Entry], place: usize) -> Result<bool, NoMemory>
-    requires place { place < length entries.now }
-    requires before { (k : ℕ) → k ≤ place → IsBefore entries.now k }
-    requires closed { (k : ℕ) → k < place → HasClosedDeps entries.now k }
-    ensures { IfOk result (λ is. IsTrue is ↔ HasClosedDeps entries.now place) }
+/// Whether the file at a rank holds the dependencies of its dependencies, where all files before it do.
+pub fn is_closed(alloc: Global, entries: &[Entry], rank: usize) -> Result<bool, NoMemory>
+    requires rank { rank < length entries.now }
+    requires before { (k : ℕ) → k ≤ rank → IsBefore entries.now k }
+    requires closed { (k : ℕ) → k < rank → HasClosedDeps entries.now k }
+    ensures { IfOk result (λ is. IsTrue is ↔ HasClosedDeps entries.now rank) }
 {
-    let deps = entries[place].deps.as_slice();
-    let mut state = marked(alloc, place, deps)?;
+    let deps = entries[rank].deps.as_slice();
+    let mut state = visited_flags(alloc, rank, deps)?;
     Ok(all_cover(state.as_mut_slice(), entries, deps))
 }

@@ -8,4 +8,4 @@ mod sizes;
 mod views;
 
 pub use reading::read_record;
-pub use store_node_codec::Record;
+pub use store_form_2::Record;

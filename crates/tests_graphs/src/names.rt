@@ -3,7 +3,7 @@
 ghost use Rattle.std.specs.Prelude.{◌≢◌, ◌↔◌, AllPairs, IsTrue, IfOk};
 
 use base::{Entry, NoMemory};
-use base_name_set::NameSet;
+use base_collections::NameSet;
 use std::alloc::Global;
 
 /// Whether no two files have one name.

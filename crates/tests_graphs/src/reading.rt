@@ -11,10 +11,9 @@ ghost use Rattle.tests_graphs.specs.Spelling.{record_bytes, IsRecord};
 
 use crate::views::is_view;
 use base::{ARTEFACT_LIMIT, Entry, Graph, Items, NoMemory, Positions, Text};
-use base_bytes::ByteReader;
-use base_ranges::read_words;
+use base_bytes::{ByteReader, read_words};
 use std::alloc::Global;
-use store_node_codec::Record;
+use store_form_2::Record;
 
 /// The files and the artefact that some bytes spell. The files may be no view.
 #[derive(Drop)]

@@ -3,7 +3,7 @@
 ghost use Rattle.std.specs.Prelude.{◌≡◌, ◌↔◌, ◌<◌, ◌≤◌, length, sum_by, IsTrue, IfOk};
 ghost use Rattle.base.specs.Graphs.{IsGraph};
 ghost use Rattle.base.specs.View.{IsView};
-ghost use Rattle.store_node_codec.specs.Validity.{StandsAt, StandBelow};
+ghost use Rattle.store_form_2.specs.Validity.{StandsAt, StandBelow};
 
 use crate::closed::is_closed;
 use crate::names::are_distinct;
@@ -26,21 +26,21 @@ fn are_small(entries: &[Entry]) -> bool
     true
 }
 
-/// Whether the file at a place is there in a graph, where all files before it do.
-fn stands_at(alloc: Global, entries: &[Entry], place: usize) -> Result<bool, NoMemory>
-    requires place { place < length entries.now }
+/// Whether the file at a rank is there in a graph, where all files before it do.
+fn stands_at(alloc: Global, entries: &[Entry], rank: usize) -> Result<bool, NoMemory>
+    requires rank { rank < length entries.now }
     requires few { length entries.now ≤ FILE_LIMIT }
-    requires before { StandBelow entries.now place }
-    ensures { IfOk result (λ stands. IsTrue stands ↔ StandsAt entries.now place) }
+    requires before { StandBelow entries.now rank }
+    ensures { IfOk result (λ stands. IsTrue stands ↔ StandsAt entries.now rank) }
 {
-    let entry = &entries[place];
+    let entry = &entries[rank];
     if !fits_file(entry) {
         return Ok(false);
     }
-    if !rise_below(place as u32, entry.deps.as_slice()) {
+    if !rise_below(rank as u32, entry.deps.as_slice()) {
         return Ok(false);
     }
-    is_closed(alloc, entries, place)
+    is_closed(alloc, entries, rank)
 }
 
 /// Whether each file is in a graph where it is.
@@ -48,8 +48,8 @@ fn all_stand(alloc: Global, entries: &[Entry]) -> Result<bool, NoMemory>
     requires { length entries.now ≤ FILE_LIMIT }
     ensures { IfOk result (λ all. IsTrue all ↔ StandBelow entries.now (length entries.now)) }
 {
-    for place in 0..entries.len() {
-        if !stands_at(alloc, entries, place)? {
+    for rank in 0..entries.len() {
+        if !stands_at(alloc, entries, rank)? {
             return Ok(false);
         }
     }

@@ -1,6 +1,6 @@
 //! Project files of a few lines, and what each says.
 
-use crate::projects::unfolded;
+use crate::projects::expand_lines;
 use base::{NoMemory, OrMemory, ProjectFault, ProjectFile};
 use project_file::read_csv_project;
 use std::alloc::Global;
@@ -50,7 +50,7 @@ fn words_of(alloc: Global, fault: &ProjectFault) -> Result<Vec<u8>, NoMemory> {
 }
 
 /// What a project file says, where it is a short one.
-fn said(alloc: Global, bytes: &[u8]) -> Result<Vec<u8>, NoMemory> {
+fn text_of_lines(alloc: Global, bytes: &[u8]) -> Result<Vec<u8>, NoMemory> {
     if bytes.len() > 1000 {
         return Ok(Vec::new(alloc));
     }
@@ -62,14 +62,14 @@ fn said(alloc: Global, bytes: &[u8]) -> Result<Vec<u8>, NoMemory> {
 }
 
 fn says(alloc: Global, bytes: &[u8], wanted: &[u8]) -> Result<bool, NoMemory> {
-    Ok(said(alloc, bytes)?.as_slice() == wanted)
+    Ok(text_of_lines(alloc, bytes)?.as_slice() == wanted)
 }
 
 /// Whether the project file of a line says what stands there.
 fn is_right(alloc: Global, line: &str) -> Result<bool, Fail> {
     match line.split_once('~') {
         Some((bytes, wanted)) => {
-            let bytes = unfolded(alloc, bytes.as_bytes())?;
+            let bytes = expand_lines(alloc, bytes.as_bytes())?;
             Ok(says(alloc, bytes.bytes(), wanted.as_bytes())?)
         }
         None => Ok(false),

@@ -1,6 +1,6 @@
 //! Project files in TOML that give as many files as a project may have, and more.
 
-use crate::projects::{add_file, add_numbered, shown_stop, the_graph, unfolded};
+use crate::projects::{add_file, add_numbered, expand_lines, shown_stop, the_graph};
 use base::{FILE_LIMIT, Items, NamedTextList, Numbers, Text};
 use memory_outside::{MemTree, have_paths};
 use project_reading::read_project;
@@ -42,7 +42,7 @@ fn read_of(alloc: Global, tree: &mut MemTree) -> Result<Text, Fail> {
 }
 
 /// What is read of a project file over so many names, where the read of its first file fails.
-fn shown(rt: &impl Abort, alloc: Global, count: usize, toml: Text) -> Result<Text, Fail> {
+fn text_of_project(rt: &impl Abort, alloc: Global, count: usize, toml: Text) -> Result<Text, Fail> {
     let mut calls = Numbers::new(alloc);
     calls.push(FIRST_FILE)?;
     let mut files: NamedTextList = Items::new(alloc);
@@ -63,9 +63,9 @@ fn reads(
     toml: &str,
     wanted: &str,
 ) -> Result<bool, Fail> {
-    let toml = unfolded(alloc, toml.as_bytes())?;
-    let wanted = unfolded(alloc, wanted.as_bytes())?;
-    let said = shown(rt, alloc, count, toml)?;
+    let toml = expand_lines(alloc, toml.as_bytes())?;
+    let wanted = expand_lines(alloc, wanted.as_bytes())?;
+    let said = text_of_project(rt, alloc, count, toml)?;
     Ok(said.bytes() == wanted.bytes())
 }
 

@@ -6,8 +6,8 @@ use base::{
 };
 use base_outcomes::Limit;
 use memory_outside::{MemTree, have_paths};
-use project_reading::{Extent, ReadProject, ReadStop, Wish, read_project};
-use report_run::{limit_text, refusal_text, warning_text};
+use project_reading::{Query, QueryKind, ReadProject, ReadStop, read_project};
+use report::{limit_text, refusal_text, warning_text};
 use std::alloc::Global;
 use std::process::Abort;
 use std::test::Fail;
@@ -43,7 +43,7 @@ fn is(bytes: &[u8], wanted: &[u8]) -> bool {
 }
 
 /// The bytes with the ends of lines in place of bars.
-pub(super) fn unfolded(alloc: Global, bytes: &[u8]) -> Result<Text, Fail> {
+pub(super) fn expand_lines(alloc: Global, bytes: &[u8]) -> Result<Text, Fail> {
     let mut out = Vec::new(alloc);
     for byte in bytes {
         if *byte == b'|' {
@@ -75,7 +75,7 @@ fn files_of(alloc: Global, row: &[u8]) -> Result<NamedTextList, Fail> {
         let mut parts = file.split(|b| *b == b'%');
         let path = parts.next().unwrap_or(b"");
         let bytes = parts.next().unwrap_or(b"");
-        add_file(alloc, &mut files, path, unfolded(alloc, bytes)?)?;
+        add_file(alloc, &mut files, path, expand_lines(alloc, bytes)?)?;
     }
     Ok(files)
 }
@@ -111,9 +111,9 @@ pub(super) fn shown_stop(alloc: Global, stop: &ReadStop) -> Result<Text, Fail> {
 }
 
 /// The graph is wanted.
-pub(super) fn the_graph(alloc: Global) -> Wish {
-    Wish {
-        extent: Extent::Graph,
+pub(super) fn the_graph(alloc: Global) -> Query {
+    Query {
+        query_kind: QueryKind::Graph,
         patterns: TextList::new(alloc),
     }
 }
@@ -126,7 +126,12 @@ fn shown_tree(alloc: Global, tree: &mut MemTree) -> Result<Text, Fail> {
 }
 
 /// What is read of a tree of these files, one call of which is to fail.
-fn shown(rt: &impl Abort, alloc: Global, files: NamedTextList, failing: u64) -> Result<Text, Fail> {
+fn text_of_project(
+    rt: &impl Abort,
+    alloc: Global,
+    files: NamedTextList,
+    failing: u64,
+) -> Result<Text, Fail> {
     let mut calls = Numbers::new(alloc);
     calls.push(failing)?;
     assert!(rt; have_paths(&files));
@@ -144,7 +149,7 @@ fn reads(
     files: NamedTextList,
     wanted: &[u8],
 ) -> Result<bool, Fail> {
-    let said = shown(rt, alloc, files, NEVER)?;
+    let said = text_of_project(rt, alloc, files, NEVER)?;
     Ok(is(said.bytes(), wanted))
 }
 
@@ -156,7 +161,7 @@ fn halves(row: &[u8]) -> (&[u8], &[u8]) {
 
 pub(super) fn is_right(rt: &impl Abort, alloc: Global, row: &[u8]) -> Result<bool, Fail> {
     let (files, wanted) = halves(row);
-    let wanted = unfolded(alloc, wanted)?;
+    let wanted = expand_lines(alloc, wanted)?;
     reads(rt, alloc, files_of(alloc, files)?, wanted.bytes())
 }
 

@@ -244,7 +244,7 @@ fn phrase(byte: u8) -> &'static [u8] {
 }
 
 /// A row with its phrases.
-fn expanded(alloc: Global, row: &[u8]) -> Result<Vec<u8>, Fail> {
+fn expand_lines(alloc: Global, row: &[u8]) -> Result<Vec<u8>, Fail> {
     let mut out = Vec::new(alloc);
     out.extend_from_slice(b"vunit.toml%")?;
     for byte in row {
@@ -261,7 +261,7 @@ fn expanded(alloc: Global, row: &[u8]) -> Result<Vec<u8>, Fail> {
 fn count_expanded(rt: &impl Abort, alloc: Global, rows: &[u8]) -> Result<u32, Fail> {
     let mut count = 0u32;
     for row in rows.split(|b| *b == b'\n') {
-        if !row.is_empty() && is_right(rt, alloc, expanded(alloc, row)?.as_slice())? {
+        if !row.is_empty() && is_right(rt, alloc, expand_lines(alloc, row)?.as_slice())? {
             count = count.saturating_add(1);
         }
     }

@@ -1,10 +1,10 @@
 //! Tests of what words say.
 
 use base::{MaybeText, NoMemory, Text, TextList};
-use run_command_line::{Setting, WordsFault, read_words};
 use std::alloc::Global;
 use std::process::Abort;
 use std::test::Fail;
+use vunit_arguments::{ArgumentsFault, Setting, read_arguments};
 
 /// A line each: the words, a colon, and what they say: a letter for each flag that is given, in the order of the fields,
 /// the threads, the size, the two files and the patterns.
@@ -109,10 +109,10 @@ fn line_of(alloc: Global, setting: &Setting) -> Result<Vec<u8>, NoMemory> {
 }
 
 fn said(alloc: Global, words: &TextList) -> Result<Vec<u8>, NoMemory> {
-    match read_words(alloc, words) {
+    match read_arguments(alloc, words) {
         Ok(setting) => line_of(alloc, &setting),
-        Err(WordsFault::Bad) => Ok(Vec::from_slice(alloc, b"bad")?),
-        Err(WordsFault::NoMemory) => Err(NoMemory),
+        Err(ArgumentsFault::Bad) => Ok(Vec::from_slice(alloc, b"bad")?),
+        Err(ArgumentsFault::NoMemory) => Err(NoMemory),
     }
 }
 

@@ -3,17 +3,17 @@
 ghost use Rattle.std.specs.Prelude.{◌≡◌, ◌<◌, ◌≤◌, [], ◌∷◌, false, length, All, IfOk, IsTrue, OnOk};
 ghost use Rattle.base.specs.declared.limits.TheConstants.{ARTEFACT_LIMIT};
 ghost use Rattle.outside.specs.Records.{deps_at};
-ghost use Rattle.store_holdings.specs.Held.{latest_held};
+ghost use Rattle.store.specs.Held.{latest_held};
 ghost use Rattle.outside.specs.Records.{HasLatest};
-ghost use Rattle.store_requests.specs.Stored.{IsOver, IsRequestStoreInStep};
+ghost use Rattle.store.specs.Stored.{IsOver, IsRequestStoreInStep};
 
+use crate::trials::empty_disk;
 use base::{ARTEFACT_LIMIT, FileName, Graph, NoMemory, Text};
 use memory_outside::MemDisk;
 use outside::{Disk, Side, StoreFault, write_durably};
 use std::alloc::Global;
-use store_requests::RequestStore;
+use store::RequestStore;
 use tests_graphs::{Record, read_record};
-use tests_journal::trials::empty_disk;
 
 /// A disk of which these calls fail, and whose side A has these bytes, which takes two calls.
 pub(super) fn disk_of(alloc: Global, failing: &[u64], bytes: &[u8]) -> Result<MemDisk, StoreFault> {
@@ -56,7 +56,7 @@ fn keep<D: Disk>(
     at: u32,
     artefact: &Text,
 ) -> Result<(), StoreFault>
-    requires place { at < length graph.now }
+    requires index { at < length graph.now }
     requires artefact { length artefact.now ≤ ARTEFACT_LIMIT }
     requires over { IsOver store.old graph.now }
     requires built { All (HasLatest (latest_held store.old.held.payloads) graph.now)
@@ -98,7 +98,7 @@ fn keep_first<D: Disk>(
 }
 
 /// The one byte of a text, or a dot where it has none.
-pub(super) fn mark(text: &[u8]) -> u8 {
+pub(super) fn first_letter(text: &[u8]) -> u8 {
     match text {
         [] => b'.',
         [byte] => *byte,
@@ -109,7 +109,7 @@ pub(super) fn mark(text: &[u8]) -> u8 {
 /// The artefact of the file, or `-` where it has no record.
 fn letter(store: &RequestStore<'_>, name: &FileName) -> u8 {
     match store.artefact(name) {
-        Some(artefact) => mark(artefact),
+        Some(artefact) => first_letter(artefact),
         None => b'-',
     }
 }
@@ -156,7 +156,7 @@ fn may_follow(store: &RequestStore<'_>, graph: &Graph) -> bool
     ensures { IsTrue result →
         All (HasLatest (latest_held store.now.held.payloads) graph.now) (deps_at graph.now 1) }
 {
-    if !store.fits(graph, 0) {
+    if !store.is_current(graph, 0) {
         return false;
     }
     let second = graph.get(1);
@@ -242,17 +242,17 @@ fn fitting(store: &RequestStore<'_>, graph: &Graph) -> [u8; 2]
     requires over { IsOver store.now graph.now }
 {
     let mut letters = [b's'; 2];
-    if store.fits(graph, 0) {
+    if store.is_current(graph, 0) {
         letters[0] = b'f';
     }
-    if store.fits(graph, 1) {
+    if store.is_current(graph, 1) {
         letters[1] = b'f';
     }
     letters
 }
 
-/// The same, and then the artefacts that are lent.
-fn seen(store: &RequestStore<'_>, graph: &Graph) -> [u8; 4]
+/// The same, and then the artefacts that are borrowed.
+fn observe_store(store: &RequestStore<'_>, graph: &Graph) -> [u8; 4]
     requires both { 1 < length graph.now }
     requires over { IsOver store.now graph.now }
 {
@@ -279,7 +279,7 @@ fn seen_after<D: Disk>(
     requires in_step { D.tells → IsRequestStoreInStep store.old (D.moments disk.old).now }
 {
     make_change(alloc, store, disk, by, graph)?;
-    Ok(seen(store, graph))
+    Ok(observe_store(store, graph))
 }
 
 /// Opens the store of a disk, which lends from the files the texts that these have, and gives what is seen after a change. It
@@ -312,8 +312,8 @@ pub(super) fn fitting_on<D: Disk>(
 fn seen_empty<D: Disk>(alloc: Global, disk: &mut D, graph: &Graph) -> Result<[u8; 4], StoreFault>
     requires { 1 < length graph.now }
 {
-    let store = RequestStore::emptied(alloc, disk, graph)?;
-    Ok(seen(&store, graph))
+    let store = RequestStore::open_empty(alloc, disk, graph)?;
+    Ok(observe_store(&store, graph))
 }
 
 /// Adds a record of the first file, and empties the disk.

@@ -1,8 +1,24 @@
+//! Tests of the objects in memory and of the journal over them.
 //! Tests of the store of requests over a disk in memory, and of the bytes of payloads of both forms.
+//! Tests of the parts of a store of requests.
 #![tactic(auto)]
 
 #[cfg(test)]
 mod changes;
+#[cfg(test)]
+mod compaction;
+#[cfg(test)]
+mod disks;
+#[cfg(test)]
+mod forms;
+#[cfg(test)]
+mod journals;
+#[cfg(test)]
+mod lines;
+#[cfg(test)]
+mod loaded;
+#[cfg(test)]
+mod loaded_payloads;
 #[cfg(test)]
 mod node_fits;
 #[cfg(test)]
@@ -10,14 +26,23 @@ mod node_numbers;
 #[cfg(test)]
 mod node_payloads;
 #[cfg(test)]
-mod node_shelves;
+mod node_tables;
+#[cfg(test)]
+mod objects;
 #[cfg(test)]
 mod payloads;
 #[cfg(test)]
 mod random_sides;
 #[cfg(test)]
+mod reports;
+#[cfg(test)]
 mod sides;
 #[cfg(test)]
 mod stops;
+pub mod trials;
 #[cfg(test)]
 mod view_records;
+#[cfg(test)]
+mod visitors;
+#[cfg(test)]
+mod windows;

@@ -3,10 +3,10 @@
 use base::{FileName, Items, NoMemory, Text, TextList};
 use std::alloc::Global;
 use std::test::Fail;
-use store_node_shelf::{NodeTable, NodeTest, Row};
+use store_form_2::{NodeCheck, NodeTable, Row};
 
 /// Whether a node without dependencies fits that has a text of so many bytes and a path of this one byte.
-fn fits(alloc: Global, path: u8, own: usize) -> Result<bool, NoMemory> {
+fn is_node_current(alloc: Global, path: u8, own: usize) -> Result<bool, NoMemory> {
     let mut table = NodeTable::new(alloc);
     let name = table.add_name(FileName {
         library: Text::from_slice(alloc, b"lib")?,
@@ -21,12 +21,12 @@ fn fits(alloc: Global, path: u8, own: usize) -> Result<bool, NoMemory> {
         text: 0,
         deps: Items::new(alloc),
     };
-    NodeTest::new(alloc).fits(&table, &row, own)
+    NodeCheck::new(alloc).is_current(&table, &row, own)
 }
 
 #[test]
 fn a_node_fits_by_the_size_of_its_text(rt: HostRuntime) -> Result<(), Fail> {
-    assert!(rt; fits(rt.alloc(), b'a', 4_194_304)?);
-    assert!(rt; !fits(rt.alloc(), b'a', 4_194_305)?);
+    assert!(rt; is_node_current(rt.alloc(), b'a', 4_194_304)?);
+    assert!(rt; !is_node_current(rt.alloc(), b'a', 4_194_305)?);
     Ok(())
 }

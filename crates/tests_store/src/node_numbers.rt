@@ -3,7 +3,7 @@
 use base::{FileName, NoMemory, Text, TextList};
 use std::alloc::Global;
 use std::test::Fail;
-use store_node_shelf::NodeTable;
+use store_form_2::NodeTable;
 
 fn name(alloc: Global, path: &[u8]) -> Result<FileName, NoMemory> {
     Ok(FileName {

@@ -1,8 +1,8 @@
 //! Tests of payloads of the earlier form, byte for byte.
 
-use base_ranges::{ByteRange, TextRange};
+use base_bytes::{ByteRange, TextRange};
 use std::test::Fail;
-use store_node_codec::{PayloadSpans, read_payload};
+use store_form_2::{PayloadSpans, read_payload};
 
 /// The file `a.vhd` of library `lib`, compiled by `cc`, with the new text `x` and the artefact `y`; and one byte more.
 const NEW: [u8; 43] = [

@@ -1,6 +1,6 @@
 //! Tests of payloads byte for byte.
 
-use base_ranges::{TextRange, bytes_in, numbers_of};
+use base_bytes::{TextRange, bytes_in, numbers_of};
 use std::test::Fail;
 use store_codec::{PayloadRanges, read_request_payload};
 

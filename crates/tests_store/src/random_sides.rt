@@ -1,17 +1,17 @@
 //! Small sides of form 3 by chance, and what is read of them by a plain reader of the definitions:
 //! `tests/support/random_requests.py` makes the table, and `tests/request_rows.sh` compares it.
 
-ghost use Rattle.store_shelf.specs.Placed.{AreTextsPlaced};
+ghost use Rattle.store_table.specs.Located.{AreTextsLocated};
 
-use crate::changes::{Change, both, disk_of, full_disk, mark, seen_on};
+use crate::changes::{Change, both, disk_of, first_letter, full_disk, seen_on};
 use base::NoMemory;
-use base_ranges::{Numbers, numbers_of};
+use base_bytes::{Numbers, numbers_of};
 use memory_outside::MemDisk;
 use outside::{Disk, Side, StoreFault};
 use std::alloc::Global;
 use std::test::Fail;
 use store_journal::{Journal, Opened, Payloads};
-use store_shelf::{HeldPayloads, PlacedShelf, RecordRow, taken_up, text_at};
+use store_table::{HeldPayloads, LocatedTable, RecordRow, taken_up, text_at};
 
 /// A line for each: the bytes of side A; the texts, products and records that it stands for; what is seen of two files as in the
 /// other tests; and the bytes of side B once so many dead bytes are put before
@@ -101,21 +101,21 @@ fn digit_of(number: u64) -> u8 {
 fn put_text(
     out: &mut Vec<u8>,
     held: &HeldPayloads<'_>,
-    shelf: &PlacedShelf,
+    record_table: &LocatedTable,
     number: usize,
 ) -> Result<(), NoMemory>
-    requires { AreTextsPlaced held.now.pieces shelf.now.texts }
+    requires { AreTextsLocated held.now.segments record_table.now.texts }
 {
-    if number < shelf.texts.places.len() {
-        out.push(mark(text_at(held, &shelf.texts, number)))?;
+    if number < record_table.texts.indices.len() {
+        out.push(first_letter(text_at(held, &record_table.texts, number)))?;
     }
     Ok(())
 }
 
 /// The first letter of the path of a name.
-fn put_name(out: &mut Vec<u8>, shelf: &PlacedShelf, number: usize) -> Result<(), NoMemory> {
-    if number < shelf.names.len()
-        && let [letter, ..] = shelf.names.key(number).path.bytes()
+fn put_name(out: &mut Vec<u8>, record_table: &LocatedTable, number: usize) -> Result<(), NoMemory> {
+    if number < record_table.names.len()
+        && let [letter, ..] = record_table.names.key(number).path.bytes()
     {
         out.push(*letter)?;
     }
@@ -125,12 +125,12 @@ fn put_name(out: &mut Vec<u8>, shelf: &PlacedShelf, number: usize) -> Result<(),
 fn put_texts(
     out: &mut Vec<u8>,
     held: &HeldPayloads<'_>,
-    shelf: &PlacedShelf,
+    record_table: &LocatedTable,
 ) -> Result<(), NoMemory>
-    requires { AreTextsPlaced held.now.pieces shelf.now.texts }
+    requires { AreTextsLocated held.now.segments record_table.now.texts }
 {
-    for number in 0..shelf.texts.places.len() {
-        put_text(out, held, shelf, number)?;
+    for number in 0..record_table.texts.indices.len() {
+        put_text(out, held, record_table, number)?;
     }
     out.push(b'/')?;
     Ok(())
@@ -139,15 +139,15 @@ fn put_texts(
 fn put_product(
     out: &mut Vec<u8>,
     held: &HeldPayloads<'_>,
-    shelf: &PlacedShelf,
+    record_table: &LocatedTable,
     number: usize,
 ) -> Result<(), NoMemory>
-    requires { AreTextsPlaced held.now.pieces shelf.now.texts }
+    requires { AreTextsLocated held.now.segments record_table.now.texts }
 {
-    if number < shelf.products.len() {
-        let row = *shelf.products.key(number);
-        put_name(out, shelf, row.name)?;
-        put_text(out, held, shelf, row.text)?;
+    if number < record_table.products.len() {
+        let row = *record_table.products.key(number);
+        put_name(out, record_table, row.name)?;
+        put_text(out, held, record_table, row.text)?;
     }
     Ok(())
 }
@@ -155,12 +155,12 @@ fn put_product(
 fn put_products(
     out: &mut Vec<u8>,
     held: &HeldPayloads<'_>,
-    shelf: &PlacedShelf,
+    record_table: &LocatedTable,
 ) -> Result<(), NoMemory>
-    requires { AreTextsPlaced held.now.pieces shelf.now.texts }
+    requires { AreTextsLocated held.now.segments record_table.now.texts }
 {
-    for number in 0..shelf.products.len() {
-        put_product(out, held, shelf, number)?;
+    for number in 0..record_table.products.len() {
+        put_product(out, held, record_table, number)?;
     }
     out.push(b'/')?;
     Ok(())
@@ -185,18 +185,18 @@ fn put_numbers(out: &mut Vec<u8>, numbers: &Numbers<'_>) -> Result<(), NoMemory>
 fn put_record(
     out: &mut Vec<u8>,
     held: &HeldPayloads<'_>,
-    shelf: &PlacedShelf,
+    record_table: &LocatedTable,
     row: RecordRow,
 ) -> Result<(), NoMemory>
-    requires { AreTextsPlaced held.now.pieces shelf.now.texts }
+    requires { AreTextsLocated held.now.segments record_table.now.texts }
 {
     if row.payload < held.len() {
         let bytes = held.get(row.payload);
-        put_name(out, shelf, row.name)?;
+        put_name(out, record_table, row.name)?;
         put_count(out, bytes, row.words.start)?;
-        put_text(out, held, shelf, row.text)?;
+        put_text(out, held, record_table, row.text)?;
         put_numbers(out, &numbers_of(bytes, row.deps))?;
-        put_product(out, held, shelf, row.product)?;
+        put_product(out, held, record_table, row.product)?;
     }
     out.push(b',')?;
     Ok(())
@@ -205,30 +205,30 @@ fn put_record(
 fn put_records(
     out: &mut Vec<u8>,
     held: &HeldPayloads<'_>,
-    shelf: &PlacedShelf,
+    record_table: &LocatedTable,
 ) -> Result<(), NoMemory>
-    requires { AreTextsPlaced held.now.pieces shelf.now.texts }
+    requires { AreTextsLocated held.now.segments record_table.now.texts }
 {
-    for row in &shelf.rows {
-        put_record(out, held, shelf, *row)?;
+    for row in &record_table.rows {
+        put_record(out, held, record_table, *row)?;
     }
     Ok(())
 }
 
 /// The texts, products and records that payloads stand for.
-fn listed(alloc: Global, payloads: Payloads) -> Result<Vec<u8>, NoMemory> {
+fn text_of_payloads(alloc: Global, payloads: Payloads) -> Result<Vec<u8>, NoMemory> {
     let held = HeldPayloads::of(alloc, payloads);
-    let shelf = taken_up(alloc, &held)?;
+    let record_table = taken_up(alloc, &held)?;
     let mut out = Vec::new(alloc);
-    put_texts(&mut out, &held, &shelf)?;
-    put_products(&mut out, &held, &shelf)?;
-    put_records(&mut out, &held, &shelf)?;
+    put_texts(&mut out, &held, &record_table)?;
+    put_products(&mut out, &held, &record_table)?;
+    put_records(&mut out, &held, &record_table)?;
     Ok(out)
 }
 
 fn listed_on<D: Disk>(alloc: Global, disk: &mut D) -> Result<Vec<u8>, StoreFault> {
     let Opened { payloads, .. } = Journal::from_disk(alloc, disk, 3, Payloads::new(alloc))?;
-    Ok(listed(alloc, payloads)?)
+    Ok(text_of_payloads(alloc, payloads)?)
 }
 
 /// A disk whose side A has the bytes of these digits.

@@ -3,18 +3,18 @@
 ghost use Rattle.std.specs.Prelude.{◌<◌, length};
 
 use crate::changes::{Change, both, disk_of, fitting_on, full_disk, run, seen_on};
+use crate::trials::empty_disk;
 use base::{Graph, NoMemory};
 use memory_outside::MemDisk;
 use outside::{Side, StoreFault};
 use std::alloc::Global;
 use std::test::Fail;
-use tests_journal::trials::empty_disk;
 
 /// A side of form 3 and generation 1: file `a.vhd` of `lib`, compiled by `cc`, with the text `x` and the artefact `y`, and
 /// then with the text `w` and the artefact `v`.
 pub(super) static SIDE: [u8; 115] = [
     1, b'V', b'U', b'N', b'I', b'T', b'R', b'E', b'C', 3, 1, 0, 0, 0, 0, 0, 0, 0, //
-    1, 43, 0, 0, 0, // an open gate, and the length of the payload
+    1, 43, 0, 0, 0, // an open commit byte, and the length of the payload
     1, 3, 0, 0, 0, b'l', b'i', b'b', 5, 0, 0, 0, b'a', b'.', b'v', b'h', b'd', //
     1, 0, 0, 0, 2, 0, 0, 0, b'c', b'c', //
     1, 1, 0, 0, 0, b'x', 0, 0, 0, 0, 1, 1, 0, 0, 0, b'y', //
@@ -53,7 +53,7 @@ static EXAMPLE: [u8; 126] = [
 
 /// The side of generation 2 that compaction leaves of the example where `a.vhd` was recorded anew, with the text `w` and the
 /// artefact `v`: the product that `b.vhd` was compiled over, alone, then `b.vhd`, and then `a.vhd`.
-static CARRIED: [u8; 151] = [
+static COMPACTED: [u8; 151] = [
     1, b'V', b'U', b'N', b'I', b'T', b'R', b'E', b'C', 3, 2, 0, 0, 0, 0, 0, 0, 0, //
     1, 23, 0, 0, 0, //
     0, 3, 0, 0, 0, b'l', b'i', b'b', 5, 0, 0, 0, b'a', b'.', b'v', b'h', b'd', //
@@ -144,19 +144,19 @@ fn the_example_is_opened_and_its_records_fit(rt: HostRuntime) -> Result<(), Fail
     Ok(())
 }
 
-/// Which of the files fit a disk of the example whose texts are lent from them.
-fn example_lent(alloc: Global, first: u8, second: u8) -> Result<[u8; 2], StoreFault> {
+/// Which of the files fit a disk of the example whose texts are borrowed from them.
+fn example_borrowed(alloc: Global, first: u8, second: u8) -> Result<[u8; 2], StoreFault> {
     let graph = both(alloc, first, second)?;
     let mut disk = disk_of(alloc, &[], &EXAMPLE)?;
     fitting_on(alloc, &mut disk, &graph)
 }
 
 #[test]
-fn records_of_the_example_fit_by_texts_that_are_lent(rt: HostRuntime) -> Result<(), Fail> {
-    assert!(rt; example_lent(rt.alloc(), b'x', b'x')? == *b"ff");
-    assert!(rt; example_lent(rt.alloc(), b'x', b'w')? == *b"fs");
-    assert!(rt; example_lent(rt.alloc(), b'w', b'x')? == *b"sf");
-    assert!(rt; example_lent(rt.alloc(), b'w', b'w')? == *b"ss");
+fn records_of_the_example_fit_by_texts_that_are_borrowed(rt: HostRuntime) -> Result<(), Fail> {
+    assert!(rt; example_borrowed(rt.alloc(), b'x', b'x')? == *b"ff");
+    assert!(rt; example_borrowed(rt.alloc(), b'x', b'w')? == *b"fs");
+    assert!(rt; example_borrowed(rt.alloc(), b'w', b'x')? == *b"sf");
+    assert!(rt; example_borrowed(rt.alloc(), b'w', b'w')? == *b"ss");
     Ok(())
 }
 
@@ -198,14 +198,14 @@ fn seen_compacted(alloc: Global, wanted: &[u8], graph: &Graph) -> Result<[u8; 4]
 }
 
 /// The same over files with these texts.
-fn carried(alloc: Global, first: u8, second: u8) -> Result<[u8; 4], StoreFault> {
+fn observe_compaction(alloc: Global, first: u8, second: u8) -> Result<[u8; 4], StoreFault> {
     let graph = both(alloc, first, second)?;
-    seen_compacted(alloc, &CARRIED, &graph)
+    seen_compacted(alloc, &COMPACTED, &graph)
 }
 
 #[test]
 fn compaction_keeps_the_product_that_a_record_stands_over(rt: HostRuntime) -> Result<(), Fail> {
-    assert!(rt; carried(rt.alloc(), b'w', b'x')? == *b"fsvz");
-    assert!(rt; carried(rt.alloc(), b'x', b'x')? == *b"ssvz");
+    assert!(rt; observe_compaction(rt.alloc(), b'w', b'x')? == *b"fsvz");
+    assert!(rt; observe_compaction(rt.alloc(), b'x', b'x')? == *b"ssvz");
     Ok(())
 }

@@ -2,12 +2,12 @@
 
 use crate::changes::{Change, disk_of, run};
 use crate::sides::SIDE;
+use crate::trials::{Trial, empty_disk, fails_all, goes, is_refused, leaves_all};
 use memory_outside::MemDisk;
 use outside::{Disk, Side, StoreFault};
 use std::alloc::Global;
 use std::test::Fail;
 use store_journal::{Journal, Opened, Payloads};
-use tests_journal::trials::{Trial, empty_disk, fails_all, goes, is_refused, leaves_all};
 
 /// The letter of payloads: `y` for the first of `SIDE` alone, `v` for the second alone, `2` for both, `-` for none.
 fn letter_of(payloads: &Payloads) -> u8 {
@@ -22,13 +22,13 @@ fn letter_of(payloads: &Payloads) -> u8 {
     }
 }
 
-fn held<D: Disk>(alloc: Global, disk: &mut D) -> Result<u8, StoreFault> {
+fn observe_held<D: Disk>(alloc: Global, disk: &mut D) -> Result<u8, StoreFault> {
     let Opened { payloads, .. } = Journal::from_disk(alloc, disk, 3, Payloads::new(alloc))?;
     Ok(letter_of(&payloads))
 }
 
-/// A payload, and a last gate that is open though none follows.
-fn open_gate(alloc: Global, failing: &[u64]) -> Result<MemDisk, StoreFault> {
+/// A payload, and a last commit byte that is open though none follows.
+fn open_commit_byte(alloc: Global, failing: &[u64]) -> Result<MemDisk, StoreFault> {
     let mut bytes = SIDE;
     bytes[66] = 1;
     disk_of(alloc, failing, &bytes[..67])
@@ -50,7 +50,7 @@ fn has_sides(disk: &MemDisk, change: Change) -> bool {
 impl Trial for Change {
     fn disk(&self, alloc: Global, failing: &[u64]) -> Result<MemDisk, StoreFault> {
         match *self {
-            Change::Opens => open_gate(alloc, failing),
+            Change::Opens => open_commit_byte(alloc, failing),
             _ => Ok(empty_disk(alloc, failing)?),
         }
     }
@@ -63,13 +63,13 @@ impl Trial for Change {
     /// Whether a disk has the payloads of a letter, and its store lends the artefact of the last one.
     fn holds(&self, alloc: Global, disk: &mut MemDisk, letter: u8) -> Result<bool, StoreFault> {
         let last = if letter == b'2' { b'v' } else { letter };
-        Ok(run(alloc, disk, Change::Opens)?[2] == last && held(alloc, disk)? == letter)
+        Ok(run(alloc, disk, Change::Opens)?[2] == last && observe_held(alloc, disk)? == letter)
     }
 }
 
 /// A change, and what a stop or a fault inside of each call leaves, from a call on. Opening an empty disk takes 14 calls, and a
-/// commit 4: after the third of these its gate may be open. Once a side was written, 7 calls open a live side, and a write closes
-/// its gate. After the commit, 6 calls of emptying sync both sides and read how they begin; then B is cut, A made dead, and A is
+/// commit 4: after the third of these its commit byte may be open. Once a side was written, 7 calls open a live side, and a write closes
+/// its commit byte. After the commit, 6 calls of emptying sync both sides and read how they begin; then B is cut, A made dead, and A is
 /// made. While A is made dead its first byte may be any.
 static CHANGES: [(Change, u64, &'static str); 3] = [
     (
@@ -85,7 +85,7 @@ static CHANGES: [(Change, u64, &'static str); 3] = [
     ),
 ];
 
-/// Whether a commit whose gate can't be written is answered by a fault of the disk, and the store can then be opened.
+/// Whether a commit whose commit byte can't be written is answered by a fault of the disk, and the store can then be opened.
 fn reopens(alloc: Global, disk: &mut MemDisk) -> Result<bool, StoreFault> {
     if !is_refused(alloc, &Change::Commits, disk) {
         return Ok(false);
@@ -94,7 +94,7 @@ fn reopens(alloc: Global, disk: &mut MemDisk) -> Result<bool, StoreFault> {
     Ok(true)
 }
 
-/// From the opening after such a commit on: the gate may be any up to the end of the first sync.
+/// From the opening after such a commit on: the commit byte may be any up to the end of the first sync.
 static REOPENING: &str = "y-------\n--------";
 
 fn settles(alloc: Global) -> Result<bool, StoreFault> {

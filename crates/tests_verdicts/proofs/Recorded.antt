@@ -4,9 +4,9 @@ use Rattle.base.specs.declared.file.FileName.{FileName}
 use Rattle.base.specs.declared.graph.Entry.{Entry}
 use Rattle.outside.specs.Records.{Record}
 use Rattle.outside.specs.Records.{IsRecorded}
-use Rattle.build_slots.specs.declared.plans.Need.{Need}
-use Rattle.build_slots.specs.declared.plans.Need.TheVariants.{Fresh, Later}
-use Rattle.build_slots.specs.Plans.{ArePlanned, is_fresh, is_later}
+use Rattle.run_scheduler.specs.declared.plans.Need.{Need}
+use Rattle.run_scheduler.specs.declared.plans.Need.TheVariants.{Fresh, Later}
+use Rattle.run_scheduler.specs.Plans.{ArePlanned, is_fresh, is_later}
 
 pub all_recorded : (latest_of : FileName → Option Record) (graph : List Entry) (needs : List Need) → ArePlanned graph (IsRecorded latest_of graph) needs → All (λ need. need ≡ Fresh) needs → (position : ℕ) → position < length graph → IsRecorded latest_of graph position
 all_recorded latest_of graph needs are fresh position below =

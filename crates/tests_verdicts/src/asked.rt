@@ -3,14 +3,14 @@
 ghost use Rattle.std.specs.Prelude.{◌≡◌, ◌≤◌, ◌<◌, ℕ, All, IfOk, IsTrue, length, sum_by};
 ghost use Rattle.base.specs.declared.limits.TheConstants.{TEXT_LIMIT};
 ghost use Rattle.outside.specs.Records.{IsRecorded};
-ghost use Rattle.build_slots.specs.declared.plans.Need.TheVariants.{Fresh};
-ghost use Rattle.test_spec.specs.Runs.{FitsRun};
+ghost use Rattle.run_scheduler.specs.declared.plans.Need.TheVariants.{Fresh};
+ghost use Rattle.testbench_runs.specs.Runs.{FitsRun};
 
 use base::{CASE_LIMIT, Graph, NoMemory, PATH_LIMIT, TEXT_LIMIT, Text};
-use build_slots::{Need, plan};
 use outside::Records;
+use run_scheduler::{Need, plan};
 use std::alloc::Global;
-use test_spec::{TestRun, TestRunList};
+use testbench_runs::{TestRun, TestRunList};
 
 /// Whether names have at most 4,194,304 bytes together.
 fn are_short(names: &[Text]) -> bool

@@ -9,7 +9,7 @@ use base::{Exit, MaybeText, NoMemory, Request, Text, TextList};
 use memory_outside::{Answer, AnswerList};
 use std::alloc::Global;
 use std::test::Fail;
-use test_spec::{TestRun, TestRunList};
+use testbench_runs::{TestRun, TestRunList};
 
 pub(super) const LIBRARY: usize = 0;
 

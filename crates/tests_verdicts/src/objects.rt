@@ -1,7 +1,7 @@
 //! Runs over a store and children in memory, and what they tell.
 
 ghost use Rattle.std.specs.Prelude.{IfOk};
-ghost use Rattle.store_requests.specs.Stored.{IsOver};
+ghost use Rattle.store.specs.Stored.{IsOver};
 
 use crate::asked::{all_fit, are_recorded};
 use crate::lines::{answers_of, inputs_of, runs_of, simulator};
@@ -9,13 +9,13 @@ use crate::way::{NEVER, Way};
 use base::{Event, Graph, NoMemory, Numbers, Positions, Text, TextList};
 use memory_outside::{MemDisk, ScriptProcs, can_answer};
 use outside::{Records, Side, StoreFault, write_durably};
-use run_steps::RunFault;
+use run_spec::RunFault;
+use run_tests::run_tests;
 use std::alloc::Global;
 use std::process::Abort;
 use std::test::Fail;
-use store_requests::RequestStore;
-use test_loop::run_tests;
-use test_spec::{RunEnd, TestEnd, TestRunList, Verdict};
+use store::RequestStore;
+use testbench_runs::{RunEnd, TestEnd, TestRunList, Verdict};
 use tests_build::picks::{pick_of, started_for};
 use tests_graphs::{Record, read_record};
 
@@ -171,7 +171,7 @@ fn run_over<K: Records>(
     let limit = way.limit;
     let recorded = are_recorded(alloc, graph, store)?;
     assert!(rt; recorded);
-    assert!(rt; procs.running().is_empty());
+    assert!(rt; procs.running_tickets().is_empty());
     assert!(rt; limit >= 1);
     assert!(rt; limit <= 64);
     assert!(rt; runs.len() <= 65_536);
@@ -274,7 +274,7 @@ fn tell(
     end: &Result<TestEnd, RunFault>,
 ) -> Result<Told, NoMemory> {
     let events = tell_events(alloc, procs.journal().as_slice(), inputs)?;
-    let idle = procs.running().is_empty();
+    let idle = procs.running_tickets().is_empty();
     match end {
         Ok(end) => Ok(Told {
             events,

@@ -7,13 +7,13 @@ use crate::way::{Way, way_of};
 use base::{Graph, NoMemory, TextList};
 use memory_outside::{MemDisk, ScriptProcs};
 use run_build::BuildOptions;
-use run_steps::RunFault;
-use run_tested::{Tested, test_over};
+use run_spec::RunFault;
+use run_tests::{Tested, test_over};
 use std::alloc::Global;
 use std::process::Abort;
 use std::test::Fail;
-use store_requests::RequestStore;
-use test_spec::TestRunList;
+use store::RequestStore;
+use testbench_runs::TestRunList;
 
 /// Two runs, of which the first passes.
 static TWO: &str = "\
@@ -32,7 +32,7 @@ fn test_disk(
     way: &Way,
 ) -> Result<Tested, RunFault> {
     let slots = way.limit;
-    assert!(rt; procs.running().is_empty());
+    assert!(rt; procs.running_tickets().is_empty());
     assert!(rt; slots >= 1);
     assert!(rt; slots <= 64);
     assert!(rt; runs.len() <= 65_536);

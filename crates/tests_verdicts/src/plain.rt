@@ -4,7 +4,7 @@ use crate::lines::{BENCH, CASES, CODE, LIBRARY, MODE, OUTPUT, RESULTS, output_of
 use crate::objects::Told;
 use crate::way::Way;
 use base::NoMemory;
-use run_steps::RunFault;
+use run_spec::RunFault;
 use std::alloc::Global;
 use tests_build::picks::take_child;
 
@@ -43,9 +43,9 @@ fn line_at(lines: &str, at: u8) -> &str {
     }
 }
 
-/// Whether one of the parts between two marks is this one.
-fn has_part(words: &str, mark: char, wanted: &str) -> bool {
-    for part in words.split(mark) {
+/// Whether one of the parts between two statuses is this one.
+fn has_part(words: &str, status: char, wanted: &str) -> bool {
+    for part in words.split(status) {
         if part == wanted {
             return true;
         }

@@ -3,8 +3,7 @@
 use base::{MaybeText, NoMemory, Text, TextList};
 use std::alloc::Global;
 use std::test::Fail;
-use test_results::verdicts;
-use test_spec::Verdict;
+use testbench_runs::{Verdict, verdicts};
 
 /// A row a line: the cases with a comma between two, or `*` for a bench that names none itself; the code; the results
 /// with `~` for a line feed and `^` for a carriage return, or `-` for none; and the verdicts by their first letters.

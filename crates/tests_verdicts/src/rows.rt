@@ -56,8 +56,15 @@ fn is(told: &Told, events: &str, text: &str) -> bool {
 }
 
 /// Runs the runs of lines, and compares what is told.
-fn goes(rt: &HostRuntime, lines: &str, way: &Way, events: &str, text: &str) -> Result<(), Fail> {
-    let told = told_runs(rt, rt.alloc(), lines, way)?;
+fn goes(
+    rt: &impl Abort,
+    alloc: Global,
+    lines: &str,
+    way: &Way,
+    events: &str,
+    text: &str,
+) -> Result<(), Fail> {
+    let told = told_runs(rt, alloc, lines, way)?;
     assert!(rt; is(&told, events, text), "{lines}");
     Ok(())
 }
@@ -66,8 +73,8 @@ fn goes(rt: &HostRuntime, lines: &str, way: &Way, events: &str, text: &str) -> R
 fn a_case_passes_and_a_child_without_results_fails(rt: HostRuntime) -> Result<(), Fail> {
     let text = "pass lib.t.a\nfail lib.t.b\n";
     for fail_fast in [false, true] {
-        goes(&rt, APART, &way_of(1, fail_fast), "+0-0+1!1", text)?;
-        goes(&rt, APART, &way_of(2, fail_fast), "+0+1-0!1", text)?;
+        goes(&rt, rt.alloc(), APART, &way_of(1, fail_fast), "+0-0+1!1", text)?;
+        goes(&rt, rt.alloc(), APART, &way_of(2, fail_fast), "+0+1-0!1", text)?;
     }
     Ok(())
 }
@@ -75,10 +82,10 @@ fn a_case_passes_and_a_child_without_results_fails(rt: HostRuntime) -> Result<()
 #[test]
 fn nothing_is_started_after_a_failure_that_ends_all(rt: HostRuntime) -> Result<(), Fail> {
     let skipped = "fail lib.t.a\nskip lib.t.b\n";
-    goes(&rt, FIRST_FAILS, &way_of(1, true), "+0!0", skipped)?;
+    goes(&rt, rt.alloc(), FIRST_FAILS, &way_of(1, true), "+0!0", skipped)?;
     let passed = "fail lib.t.a\npass lib.t.b\n";
-    goes(&rt, FIRST_FAILS, &way_of(1, false), "+0!0+1-1", passed)?;
-    goes(&rt, FIRST_FAILS, &way_of(2, true), "+0+1!0-1", passed)
+    goes(&rt, rt.alloc(), FIRST_FAILS, &way_of(1, false), "+0!0+1-1", passed)?;
+    goes(&rt, rt.alloc(), FIRST_FAILS, &way_of(2, true), "+0+1!0-1", passed)
 }
 
 #[test]
@@ -102,23 +109,23 @@ fn tests_may_run_only_over_files_that_are_recorded(rt: HostRuntime) -> Result<()
 #[test]
 fn names_have_their_bytes_in_what_is_asked(rt: HostRuntime) -> Result<(), Fail> {
     let text = "pass tb_lib.tb_x.a\npass tb_lib.tb_x.b,c\n";
-    goes(&rt, COMMA, &way_of(1, false), "+0-0+1-1", text)?;
+    goes(&rt, rt.alloc(), COMMA, &way_of(1, false), "+0-0+1-1", text)?;
     let text = "pass tb_lib.tb_counter.reset\npass tb_lib.tb_counter.count & wrap\n";
-    goes(&rt, COUNTER, &way_of(64, true), "+0+1-0-1", text)
+    goes(&rt, rt.alloc(), COUNTER, &way_of(64, true), "+0+1-0-1", text)
 }
 
 #[test]
 fn the_last_case_fails_where_not_all_is_done(rt: HostRuntime) -> Result<(), Fail> {
     let text = "boom\npass lib.t.a\nfail lib.t.b\n";
-    goes(&rt, TOGETHER, &way_of(1, false), "+0-0", text)?;
+    goes(&rt, rt.alloc(), TOGETHER, &way_of(1, false), "+0-0", text)?;
     let text = "boom\nfail lib.t.a\nfail lib.t.b\n";
-    goes(&rt, NO_RESULTS, &way_of(1, false), "+0-0", text)
+    goes(&rt, rt.alloc(), NO_RESULTS, &way_of(1, false), "+0-0", text)
 }
 
 #[test]
 fn verdicts_are_those_of_the_exits(rt: HostRuntime) -> Result<(), Fail> {
     let text = "hellopass lib.w.all\npass lib.s.a\nskip lib.s.b\npass lib.s.c\nend\nfail lib.t.a\n";
-    goes(&rt, OTHERS, &way_of(3, false), "+0+1+2-0-1!2", text)
+    goes(&rt, rt.alloc(), OTHERS, &way_of(3, false), "+0+1+2-0-1!2", text)
 }
 
 #[test]

@@ -3,7 +3,7 @@
 use crate::objects::told_runs;
 use crate::plain::{agree, plain_runs};
 use crate::way::{NEVER, Way, way_of};
-use run_steps::RunFault;
+use run_spec::RunFault;
 use std::alloc::Global;
 use std::process::Abort;
 use std::test::Fail;

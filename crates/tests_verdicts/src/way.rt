@@ -8,7 +8,7 @@ pub(super) const NEVER: u32 = 1000;
 pub(super) struct Way {
     pub limit: u32,
     pub fail_fast: bool,
-    /// Four bits a wait, the low ones first: the place among the running children, in order of their starts.
+    /// Four bits a wait, the low ones first: the index among the running children, in order of their starts.
     pub picks: u32,
     /// The starts and waits that fail, counted from 0.
     pub failing: [u32; 2],

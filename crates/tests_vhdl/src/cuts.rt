@@ -1,6 +1,6 @@
 //! Tables of small texts, their tokens written out by hand from the grammar, and large hostile texts.
 
-use crate::tables::{halves, unfolded};
+use crate::tables::{expand_lines, halves};
 use base::{LexFault, OrMemory, Role, RoleList, TokenKind, Tokens};
 use std::alloc::Global;
 use std::process::Abort;
@@ -21,7 +21,7 @@ fn letter(kind: TokenKind) -> u8 {
     }
 }
 
-/// The bytes of a text between two places, and a bar.
+/// The bytes of a text between two indices, and a bar.
 fn put_part(out: &mut Vec<u8>, text: &[u8], start: u32, end: u32) -> Result<(), Fail> {
     let part = text
         .get(start as usize..end as usize)
@@ -32,7 +32,7 @@ fn put_part(out: &mut Vec<u8>, text: &[u8], start: u32, end: u32) -> Result<(), 
 }
 
 /// Each token as its letter and its bytes, then each comment after a `#`.
-fn written(alloc: Global, text: &[u8], tokens: &Tokens) -> Result<Vec<u8>, Fail> {
+fn text_of_tokens(alloc: Global, text: &[u8], tokens: &Tokens) -> Result<Vec<u8>, Fail> {
     let mut out = Vec::new(alloc);
     for token in tokens.list.as_slice() {
         out.push(letter(token.kind))?;
@@ -53,12 +53,12 @@ fn fault_written(alloc: Global, fault: LexFault) -> Result<Vec<u8>, Fail> {
     }
 }
 
-fn scanned(alloc: Global, text: &[u8]) -> Result<Vec<u8>, Fail> {
+fn text_of_scan(alloc: Global, text: &[u8]) -> Result<Vec<u8>, Fail> {
     if text.len() > 4_194_304 {
         return Err(Fail::from("a small text"));
     }
     match scan_with_roles(alloc, text, &mut RoleList::new(alloc), no_tokens(alloc)) {
-        Ok(tokens) => written(alloc, text, &tokens),
+        Ok(tokens) => text_of_tokens(alloc, text, &tokens),
         Err(OrMemory::Fault(fault)) => fault_written(alloc, fault),
         Err(OrMemory::NoMemory) => Err(Fail::from("out of memory")),
     }
@@ -67,9 +67,9 @@ fn scanned(alloc: Global, text: &[u8]) -> Result<Vec<u8>, Fail> {
 /// Whether of the text of a row is found what stands there.
 fn is_right(alloc: Global, row: &[u8]) -> Result<bool, Fail> {
     let (text, wanted) = halves(row);
-    let text = unfolded(alloc, text)?;
-    let wanted = unfolded(alloc, wanted)?;
-    Ok(scanned(alloc, &text)?.as_slice() == wanted.as_slice())
+    let text = expand_lines(alloc, text)?;
+    let wanted = expand_lines(alloc, wanted)?;
+    Ok(text_of_scan(alloc, &text)?.as_slice() == wanted.as_slice())
 }
 
 fn check(rt: &impl Abort, alloc: Global, table: &[u8]) -> Result<(), Fail> {
@@ -272,7 +272,7 @@ fn quotes(alloc: Global, count: usize) -> Result<Vec<u8>, Fail> {
 /// What is found in them.
 fn scanned_quotes(alloc: Global, count: usize) -> Result<Vec<u8>, Fail> {
     let text = quotes(alloc, count)?;
-    scanned(alloc, &text)
+    text_of_scan(alloc, &text)
 }
 
 #[test]
@@ -311,7 +311,7 @@ static ROLES: &[Role] = &[
 ];
 
 /// The number of tokens, and their roles.
-fn roled(alloc: Global, text: &[u8]) -> Result<(u64, RoleList), Fail> {
+fn roles_of_text(alloc: Global, text: &[u8]) -> Result<(u64, RoleList), Fail> {
     if text.len() > 4_194_304 {
         return Err(Fail::from("a small text"));
     }
@@ -322,7 +322,7 @@ fn roled(alloc: Global, text: &[u8]) -> Result<(u64, RoleList), Fail> {
 
 #[test]
 fn roles(rt: HostRuntime) -> Result<(), Fail> {
-    let (tokens, roles) = roled(rt.alloc(), ROLED)?;
+    let (tokens, roles) = roles_of_text(rt.alloc(), ROLED)?;
     assert_eq!(rt; tokens, 20);
     assert!(rt; roles.as_slice() == ROLES);
     Ok(())

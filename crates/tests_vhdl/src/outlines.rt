@@ -1,6 +1,6 @@
 //! Tables of small files, their units written out by hand from the grammar, and large hostile ones.
 
-use crate::tables::{halves, repeated, unfolded};
+use crate::tables::{expand_lines, halves, repeat_parts};
 use base::{MaybeText, OrMemory, Role, RoleList, UnitFault, UnitKind, UnitList};
 use std::alloc::Global;
 use std::process::Abort;
@@ -20,8 +20,8 @@ fn word(kind: UnitKind) -> &'static [u8] {
     }
 }
 
-/// Each unit as its kind, its name, its owner and its three places.
-fn written(alloc: Global, units: &UnitList) -> Result<Vec<u8>, Fail> {
+/// Each unit as its kind, its name, its owner and its three indices.
+fn text_of_units(alloc: Global, units: &UnitList) -> Result<Vec<u8>, Fail> {
     let mut out = Vec::new(alloc);
     for unit in units.as_slice() {
         out.extend_from_slice(word(unit.kind))?;
@@ -33,13 +33,13 @@ fn written(alloc: Global, units: &UnitList) -> Result<Vec<u8>, Fail> {
         let lead = unit.lead;
         let first = unit.first;
         let last = unit.last;
-        let places = format!(in alloc; " {lead} {first} {last}|")?;
-        out.extend_from_slice(places.as_bytes())?;
+        let indices = format!(in alloc; " {lead} {first} {last}|")?;
+        out.extend_from_slice(indices.as_bytes())?;
     }
     Ok(out)
 }
 
-fn outlined(alloc: Global, text: &[u8]) -> Result<Result<UnitList, OrMemory<UnitFault>>, Fail> {
+fn outline_of(alloc: Global, text: &[u8]) -> Result<Result<UnitList, OrMemory<UnitFault>>, Fail> {
     if text.len() > 4_194_304 {
         return Err(Fail::from("a text within the limit"));
     }
@@ -55,17 +55,17 @@ fn fault_written(alloc: Global, fault: UnitFault) -> Result<Vec<u8>, Fail> {
     }
 }
 
-fn shown(alloc: Global, text: &[u8]) -> Result<Vec<u8>, Fail> {
-    match outlined(alloc, text)? {
-        Ok(units) => written(alloc, &units),
+fn text_of_outline(alloc: Global, text: &[u8]) -> Result<Vec<u8>, Fail> {
+    match outline_of(alloc, text)? {
+        Ok(units) => text_of_units(alloc, &units),
         Err(OrMemory::Fault(fault)) => fault_written(alloc, fault),
         Err(OrMemory::NoMemory) => Err(Fail::from("out of memory")),
     }
 }
 
 /// The number of units alone.
-fn counted(alloc: Global, text: &[u8]) -> Result<Vec<u8>, Fail> {
-    match outlined(alloc, text)? {
+fn count_units(alloc: Global, text: &[u8]) -> Result<Vec<u8>, Fail> {
+    match outline_of(alloc, text)? {
         Ok(units) => {
             let count = units.len();
             Ok(format!(in alloc; "{count} units")?.into_bytes())
@@ -78,8 +78,8 @@ fn counted(alloc: Global, text: &[u8]) -> Result<Vec<u8>, Fail> {
 /// Whether of the text of a row is found what stands there.
 fn is_right(alloc: Global, row: &[u8]) -> Result<bool, Fail> {
     let (text, wanted) = halves(row);
-    let text = unfolded(alloc, text)?;
-    Ok(shown(alloc, &text)?.as_slice() == wanted)
+    let text = expand_lines(alloc, text)?;
+    Ok(text_of_outline(alloc, &text)?.as_slice() == wanted)
 }
 
 fn check(rt: &impl Abort, alloc: Global, table: &[u8]) -> Result<(), Fail> {
@@ -227,8 +227,8 @@ static LARGE: &[u8] = b"
 /// Whether of the parts of a row so many units are found.
 fn counts(alloc: Global, row: &[u8]) -> Result<bool, Fail> {
     let (parts, wanted) = halves(row);
-    let text = repeated(alloc, parts)?;
-    Ok(counted(alloc, &text)?.as_slice() == wanted)
+    let text = repeat_parts(alloc, parts)?;
+    Ok(count_units(alloc, &text)?.as_slice() == wanted)
 }
 
 #[test]

@@ -4,13 +4,13 @@ ghost use Rattle.std.specs.Prelude.{◌≡◌, ◌<◌, ◌≤◌, IfOk, length}
 ghost use Rattle.vhdl_spec.specs.Units.{roles_of};
 ghost use Rattle.vhdl_spec.specs.Scans.{IsScanOf};
 
-use crate::tables::{halves, repeated, unfolded};
+use crate::tables::{expand_lines, halves, repeat_parts};
 use base::{Items, MaybeText, RefList, RoleList, Scan, TEXT_LIMIT, Token, TokenList};
 use std::alloc::Global;
 use std::process::Abort;
 use std::test::Fail;
 use vhdl_lex::{no_tokens, scan_with_roles};
-use vhdl_refs::{NamedRef, find_refs, library_names, mentions_of};
+use vhdl_outline::{NamedRef, find_refs, library_names, unresolved_refs};
 use vhdl_units::outline;
 
 /// What is asked of a unit.
@@ -35,12 +35,12 @@ fn scan_of(alloc: Global, text: &[u8], roles: &mut RoleList) -> Result<Scan, Fai
 }
 
 /// Adds a `!` where a reference is strict, and its token number.
-fn push_place(alloc: Global, is_strict: bool, at: u32, out: &mut Vec<u8>) -> Result<(), Fail> {
+fn push_index(alloc: Global, is_strict: bool, at: u32, out: &mut Vec<u8>) -> Result<(), Fail> {
     if is_strict {
         out.push(b'!')?;
     }
-    let place = format!(in alloc; "@{at}")?;
-    out.extend_from_slice(place.as_bytes())?;
+    let index = format!(in alloc; "@{at}")?;
+    out.extend_from_slice(index.as_bytes())?;
     Ok(())
 }
 
@@ -58,7 +58,7 @@ fn push_refs(alloc: Global, refs: &RefList, out: &mut Vec<u8>) -> Result<(), Fai
             out.extend_from_slice(architecture.bytes())?;
             out.push(b')')?;
         }
-        push_place(alloc, found.strict, found.at, out)?;
+        push_index(alloc, found.strict, found.at, out)?;
     }
     Ok(())
 }
@@ -93,7 +93,7 @@ fn push_named(
         push_token(text, &found.library, out)?;
         out.push(b'.')?;
         push_token(text, &found.name, out)?;
-        push_place(alloc, found.strict, found.at, out)?;
+        push_index(alloc, found.strict, found.at, out)?;
     }
     Ok(())
 }
@@ -113,23 +113,23 @@ fn push_asked(
     requires unit { unit < length scan.now.units }
 {
     let mut room = Vec::new(alloc);
-    let mentions = mentions_of(alloc, text, scan, roles, unit, &mut room)?;
+    let unresolved = unresolved_refs(alloc, text, scan, roles, unit, &mut room)?;
     match asked {
         Asked::Refs => push_refs(alloc, &find_refs(alloc, text, scan, roles, unit)?, out)?,
-        Asked::ContextRefs => push_named(alloc, text, &mentions.contexts, out)?,
+        Asked::ContextRefs => push_named(alloc, text, &unresolved.contexts, out)?,
         Asked::Libraries => {
             for name in library_names(alloc, text, scan, roles, unit)?.as_slice() {
                 out.extend_from_slice(name.bytes())?;
                 out.push(b',')?;
             }
         }
-        Asked::UsesOfAll => push_tokens(text, &mentions.whole, out)?,
-        Asked::Components => push_tokens(text, &mentions.components, out)?,
+        Asked::UsesOfAll => push_tokens(text, &unresolved.whole, out)?,
+        Asked::Components => push_tokens(text, &unresolved.components, out)?,
         Asked::Count => {
             let count = find_refs(alloc, text, scan, roles, unit)?.len();
             let names = library_names(alloc, text, scan, roles, unit)?.len();
-            let uses = mentions.whole.len();
-            let components = mentions.components.len();
+            let uses = unresolved.whole.len();
+            let components = unresolved.components.len();
             let shown = format!(in alloc; "{count} {names} {uses} {components}")?;
             out.extend_from_slice(shown.as_bytes())?;
         }
@@ -138,7 +138,7 @@ fn push_asked(
 }
 
 /// What is asked of each unit of a text, with a bar after each.
-fn shown(alloc: Global, text: &[u8], asked: Asked) -> Result<Vec<u8>, Fail> {
+fn text_of_refs(alloc: Global, text: &[u8], asked: Asked) -> Result<Vec<u8>, Fail> {
     if text.len() > 4_194_304 {
         return Err(Fail::from("a text within the limit"));
     }
@@ -160,8 +160,8 @@ fn shown(alloc: Global, text: &[u8], asked: Asked) -> Result<Vec<u8>, Fail> {
 /// Whether of the text of a row is found what stands there.
 fn is_right(alloc: Global, asked: Asked, row: &[u8]) -> Result<bool, Fail> {
     let (text, wanted) = halves(row);
-    let text = unfolded(alloc, text)?;
-    Ok(shown(alloc, &text, asked)?.as_slice() == wanted)
+    let text = expand_lines(alloc, text)?;
+    Ok(text_of_refs(alloc, &text, asked)?.as_slice() == wanted)
 }
 
 fn check(rt: &impl Abort, alloc: Global, asked: Asked, table: &[u8]) -> Result<(), Fail> {
@@ -380,8 +380,8 @@ static LARGE: &[u8] = b"
 /// Whether of the parts of a row so many are found.
 fn counts(alloc: Global, row: &[u8]) -> Result<bool, Fail> {
     let (parts, wanted) = halves(row);
-    let text = repeated(alloc, parts)?;
-    Ok(shown(alloc, &text, Asked::Count)?.as_slice() == wanted)
+    let text = repeat_parts(alloc, parts)?;
+    Ok(text_of_refs(alloc, &text, Asked::Count)?.as_slice() == wanted)
 }
 
 #[test]

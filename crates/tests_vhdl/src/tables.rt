@@ -10,7 +10,7 @@ pub(super) fn halves(row: &[u8]) -> (&[u8], &[u8]) {
 }
 
 /// The bytes with the ends of lines in place of what stands for them.
-pub(super) fn unfolded(alloc: Global, bytes: &[u8]) -> Result<Vec<u8>, Fail> {
+pub(super) fn expand_lines(alloc: Global, bytes: &[u8]) -> Result<Vec<u8>, Fail> {
     let mut out = Vec::new(alloc);
     for byte in bytes {
         out.push(if *byte == b'~' { b'\n' } else { *byte })?;
@@ -38,7 +38,7 @@ fn put_part(alloc: Global, out: &mut Vec<u8>, part: &[u8]) -> Result<(), Fail> {
 }
 
 /// A text of parts that are parted by `~`.
-pub(super) fn repeated(alloc: Global, parts: &[u8]) -> Result<Vec<u8>, Fail> {
+pub(super) fn repeat_parts(alloc: Global, parts: &[u8]) -> Result<Vec<u8>, Fail> {
     let mut out = Vec::new(alloc);
     for part in parts.split(|b| *b == b'~') {
         put_part(alloc, &mut out, part)?;

@@ -13,8 +13,8 @@ use Rattle.base.specs.declared.project.Project.{Project}
 use Rattle.base.specs.PresentGraph.{below}
 use Rattle.base.proofs.Below.{length-below, get_or-below}
 use Rattle.vhdl_spec.specs.Dependencies.{LinkUnit, depends_on, edges_of}
-use Rattle.order_spec.proofs.Finds.{below_all, below_rises}
-use Rattle.order_spec.specs.BuildOrder.{AreEdges, deps_in}
+use Rattle.order.proofs.Finds.{below_all, below_rises}
+use Rattle.order.specs.BuildOrder.{AreEdges, deps_in}
 use Rattle.vhdl_spec.proofs.SomeTests.{and_cases}
 use Rattle.vhdl_graph.specs.Linking.{GivesAll}
 

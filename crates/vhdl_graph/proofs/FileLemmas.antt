@@ -19,8 +19,8 @@ use Rattle.base.specs.declared.refs.UnitId.{UnitId}
 use Rattle.base.specs.PresentGraph.{below}
 use Rattle.vhdl_spec.specs.Visibility.{ScopeUnit, scope_unit, scope_units, sees}
 use Rattle.vhdl_spec.specs.Dependencies.{LinkUnit, depends_on, edges_of, first_duplicate, first_missing, first_some, link_of, link_unit, link_units, missing_of, refers_to, warnings_of}
-use Rattle.base_position_set.specs.declared.set.PositionSet.{PositionSet}
-use Rattle.base_position_set.specs.Positions.{has}
+use Rattle.base_collections.specs.declared.set.PositionSet.{PositionSet}
+use Rattle.base_collections.specs.Positions.{has}
 use Rattle.vhdl_scope.specs.Tables.{AreVisible, IsUnitAt}
 use Rattle.vhdl_graph.specs.declared.seen.Tables.{Tables}
 use Rattle.vhdl_graph.specs.Linking.{GivesAll, StandAll, unit_lacks}

@@ -3,12 +3,12 @@ use Rattle.std.proofs.Common.{◌≡◌, ℕ, zero, suc, ◌+◌, ◌<◌, ◌�
 use Rattle.std.specs.Prelude.{slice_get, Result, Ok, Err}
 use Rattle.std.specs.List.{All, find}
 use Rattle.std.specs.Option.{option_map, option_or}
-use Rattle.base_key_index.specs.Maps.{Entries, get}
+use Rattle.base_collections.specs.Maps.{Entries, get}
 use Rattle.std.proofs.lemmas.Bool.{cond-true, cond-false}
 use Rattle.std.proofs.lemmas.Grind.{common_steps}
 use Rattle.std.proofs.lemmas.List.Folds.{find-append}
 use Rattle.std.proofs.lemmas.List.Elements.{Contains-append_cases}
-use Rattle.order_spec.proofs.Finds.{found_within, none_passes}
+use Rattle.order.proofs.Finds.{found_within, none_passes}
 use Rattle.std.proofs.lemmas.List.{map-append, map_more, take_all}
 use Rattle.base.specs.declared.design.Scan.{Scan}
 use Rattle.base.specs.declared.design.Unit.{Unit as DesignUnit}
@@ -16,9 +16,9 @@ use Rattle.base.specs.declared.linking.LinkFault.{LinkFault}
 use Rattle.base.specs.declared.linking.LinkFault.TheVariants.{NoMemory, DuplicateUnit, MissingUnit, MissingArchitecture}
 use Rattle.base.specs.declared.project.ProjectFile.{ProjectFile}
 use Rattle.vhdl_spec.specs.Dependencies.{LinkUnit, first_duplicate, is_alike, is_package_kind, link_unit, link_units}
-use Rattle.vhdl_graph.specs.declared.index.Place.{Place}
+use Rattle.vhdl_graph.specs.declared.index.UnitIndex.{UnitIndex}
 use Rattle.vhdl_graph.specs.Keys.{DesignUnitKey, is_same_key, key_of, design_unit_key}
-use Rattle.vhdl_graph.specs.Indexes.{AreDistinct, ArePlacesOfFiles, GivesOrFaults, GivesPlace, HoldsUnits, IsFaultOf, IsIndex, IsOfFile, IsUnitOf, Refuses, fault_before, unit_place, unit_named}
+use Rattle.vhdl_graph.specs.Indexes.{AreDistinct, ArePositionsOfFiles, GivesOrFaults, GivesIndex, HoldsUnits, IsFaultOf, IsIndex, IsOfFile, IsUnitOf, Refuses, fault_before, index_of_unit, unit_named}
 use Rattle.vhdl_graph.proofs.KeyLemmas.{alike_is, same_key, told_key}
 
 pub one_of : {X : Type 0} (x y : X) → Contains (x ∷ []) y → x ≡ y
@@ -38,24 +38,24 @@ none_some : {X : Type 0} (x : X) → ◌≡◌ {A = Option X} None (Some x) → 
 none_some x e = cc
 
 -- the unit of a name in an index
-pub named_some : (units : List LinkUnit) (key : DesignUnitKey) (place : Place) → option_map unit_place (unit_named units key) ≡ Some place → (unit : LinkUnit) × (unit_named units key ≡ Some unit) × (unit_place unit ≡ place)
-named_some units key place told = by_unit (unit_named units key) refl where
-  by_unit : (found : Option LinkUnit) → unit_named units key ≡ found → (unit : LinkUnit) × (unit_named units key ≡ Some unit) × (unit_place unit ≡ place)
-  by_unit None is = let never : ⊥ = none_some place (ap (option_map unit_place) (sym is) ∙ told) in absurd never
-  by_unit (Some unit) is = (unit, is, (let e : Some (unit_place unit) ≡ Some place = ap (option_map unit_place) (sym is) ∙ told in cc))
+pub named_some : (units : List LinkUnit) (key : DesignUnitKey) (unit_index : UnitIndex) → option_map index_of_unit (unit_named units key) ≡ Some unit_index → (unit : LinkUnit) × (unit_named units key ≡ Some unit) × (index_of_unit unit ≡ unit_index)
+named_some units key unit_index told = by_unit (unit_named units key) refl where
+  by_unit : (found : Option LinkUnit) → unit_named units key ≡ found → (unit : LinkUnit) × (unit_named units key ≡ Some unit) × (index_of_unit unit ≡ unit_index)
+  by_unit None is = let never : ⊥ = none_some unit_index (ap (option_map index_of_unit) (sym is) ∙ told) in absurd never
+  by_unit (Some unit) is = (unit, is, (let e : Some (index_of_unit unit) ≡ Some unit_index = ap (option_map index_of_unit) (sym is) ∙ told in cc))
 
-pub named_none : (units : List LinkUnit) (key : DesignUnitKey) → option_map unit_place (unit_named units key) ≡ None → unit_named units key ≡ None
+pub named_none : (units : List LinkUnit) (key : DesignUnitKey) → option_map index_of_unit (unit_named units key) ≡ None → unit_named units key ≡ None
 named_none units key told = by_unit (unit_named units key) refl where
   by_unit : (found : Option LinkUnit) → unit_named units key ≡ found → unit_named units key ≡ None
   by_unit None is = is
-  by_unit (Some unit) is = let e : Some (unit_place unit) ≡ None = ap (option_map unit_place) (sym is) ∙ told in let never : ⊥ = cc in absurd never
+  by_unit (Some unit) is = let e : Some (index_of_unit unit) ≡ None = ap (option_map index_of_unit) (sym is) ∙ told in let never : ⊥ = cc in absurd never
 
 -- ## One unit more
 
-module _ (files : List ProjectFile) (units : List LinkUnit) (unit : LinkUnit) (old new : Entries DesignUnitKey Place) (is : IsIndex files units old) (of : IsOfFile files unit) (absent : unit_named units (key_of unit) ≡ None) (updates : GivesPlace old new (key_of unit) (unit_place unit)) where
+module _ (files : List ProjectFile) (units : List LinkUnit) (unit : LinkUnit) (old new : Entries DesignUnitKey UnitIndex) (is : IsIndex files units old) (of : IsOfFile files unit) (absent : unit_named units (key_of unit) ≡ None) (updates : GivesIndex old new (key_of unit) (index_of_unit unit)) where
   holds : HoldsUnits new (units ++ unit ∷ [])
-  holds key = updates key ∙ by_key (is_same_key (key_of unit) key) refl ∙ sym (ap (option_map unit_place) (find-append (λ u. is_same_key key (key_of u)) units (unit ∷ []))) where
-    by_key : (b : Bool) → is_same_key (key_of unit) key ≡ b → cond b (Some (unit_place unit)) (get is_same_key old key) ≡ option_map unit_place (option_or (unit_named units key) (cond (is_same_key key (key_of unit)) (Some unit) None))
+  holds key = updates key ∙ by_key (is_same_key (key_of unit) key) refl ∙ sym (ap (option_map index_of_unit) (find-append (λ u. is_same_key key (key_of u)) units (unit ∷ []))) where
+    by_key : (b : Bool) → is_same_key (key_of unit) key ≡ b → cond b (Some (index_of_unit unit)) (get is_same_key old key) ≡ option_map index_of_unit (option_or (unit_named units key) (cond (is_same_key key (key_of unit)) (Some unit) None))
     by_key true told =
         let same : key_of unit ≡ key = same_key (key_of unit) key told in
         let none : unit_named units key ≡ None = subst (λ (k : DesignUnitKey). unit_named units k ≡ None) same absent in
@@ -68,7 +68,7 @@ module _ (files : List ProjectFile) (units : List LinkUnit) (unit : LinkUnit) (o
           differ false e = e
           differ true e = let never : true ≡ false = sym (told_key (key_of unit) key (sym (same_key key (key_of unit) e))) ∙ told in let impossible : ⊥ = cc in absurd impossible
 
-          plain : (o : Option LinkUnit) → option_map unit_place o ≡ option_map unit_place (option_or o None)
+          plain : (o : Option LinkUnit) → option_map index_of_unit o ≡ option_map index_of_unit (option_or o None)
           plain None = refl
           plain (Some u) = refl
 
@@ -80,24 +80,24 @@ module _ (files : List ProjectFile) (units : List LinkUnit) (unit : LinkUnit) (o
       cc
 
   distinct : AreDistinct (units ++ unit ∷ [])
-  distinct a b in_a in_b same = by_place (Contains-append_cases units (unit ∷ []) a in_a) (Contains-append_cases units (unit ∷ []) b in_b) where
-    by_place : Contains units a ⊎ Contains (unit ∷ []) a → Contains units b ⊎ Contains (unit ∷ []) b → a ≡ b
-    by_place (inl x) (inl y) = is.distinct a b x y same
-    by_place (inl x) (inr y) = absurd (apart a x (same ∙ ap key_of (sym (one_of unit b y))))
-    by_place (inr x) (inl y) = absurd (apart b y (sym same ∙ ap key_of (sym (one_of unit a x))))
-    by_place (inr x) (inr y) = sym (one_of unit a x) ∙ one_of unit b y
+  distinct a b in_a in_b same = by_index (Contains-append_cases units (unit ∷ []) a in_a) (Contains-append_cases units (unit ∷ []) b in_b) where
+    by_index : Contains units a ⊎ Contains (unit ∷ []) a → Contains units b ⊎ Contains (unit ∷ []) b → a ≡ b
+    by_index (inl x) (inl y) = is.distinct a b x y same
+    by_index (inl x) (inr y) = absurd (apart a x (same ∙ ap key_of (sym (one_of unit b y))))
+    by_index (inr x) (inl y) = absurd (apart b y (sym same ∙ ap key_of (sym (one_of unit a x))))
+    by_index (inr x) (inr y) = sym (one_of unit a x) ∙ one_of unit b y
 
   pub index_more : IsIndex files (units ++ unit ∷ []) new
   index_more = record { holds = holds; distinct = distinct; of = λ i d lt. of_at i d lt } where
     of_at : All (IsOfFile files) (units ++ unit ∷ [])
     of_at = grind (arith, common_steps, is.of, of)
 
--- places of one unit more
-pub places_more : (files : ℕ) (old new : Entries DesignUnitKey Place) (key : DesignUnitKey) (place : Place) → ArePlacesOfFiles files old → place.file < files → GivesPlace old new key place → ArePlacesOfFiles files new
-places_more files old new key place are within updates other found told = by_key (is_same_key key other) refl where
+-- indices of one unit more
+pub indices_more : (files : ℕ) (old new : Entries DesignUnitKey UnitIndex) (key : DesignUnitKey) (unit_index : UnitIndex) → ArePositionsOfFiles files old → unit_index.file < files → GivesIndex old new key unit_index → ArePositionsOfFiles files new
+indices_more files old new key unit_index are within updates other found told = by_key (is_same_key key other) refl where
   by_key : (b : Bool) → is_same_key key other ≡ b → found.file < files
-  by_key true is = let e : Some place ≡ Some found = sym (cond-true (is_same_key key other) (Some place) (get is_same_key old other) is) ∙ (sym (updates other) ∙ told) in let same : place ≡ found = cc in subst (λ (p : Place). p.file < files) same within
-  by_key false is = are other found (sym (cond-false (is_same_key key other) (Some place) (get is_same_key old other) is) ∙ (sym (updates other) ∙ told))
+  by_key true is = let e : Some unit_index ≡ Some found = sym (cond-true (is_same_key key other) (Some unit_index) (get is_same_key old other) is) ∙ (sym (updates other) ∙ told) in let same : unit_index ≡ found = cc in subst (λ (p : UnitIndex). p.file < files) same within
+  by_key false is = are other found (sym (cond-false (is_same_key key other) (Some unit_index) (get is_same_key old other) is) ∙ (sym (updates other) ∙ told))
 
 -- ## Two units of one name
 
@@ -158,7 +158,7 @@ pub unit_of : (files : List ProjectFile) (file : ℕ) (named : ProjectFile) (tex
 unit_of files file named text scan design got = record { position = refl; is = refl; of = (got, refl) }
 
 -- one unit more was added
-pub added_more : (files : List ProjectFile) (units more : List LinkUnit) (unit : LinkUnit) (new : Entries DesignUnitKey Place) → (fault_before (units ++ more) unit ≡ None) × IsIndex files ((units ++ more) ++ unit ∷ []) new → ((rest : List LinkUnit) → first_duplicate units (more ++ rest) ≡ first_duplicate (units ++ more) rest) → (all : List LinkUnit) → all ≡ more ++ unit ∷ [] →
+pub added_more : (files : List ProjectFile) (units more : List LinkUnit) (unit : LinkUnit) (new : Entries DesignUnitKey UnitIndex) → (fault_before (units ++ more) unit ≡ None) × IsIndex files ((units ++ more) ++ unit ∷ []) new → ((rest : List LinkUnit) → first_duplicate units (more ++ rest) ≡ first_duplicate (units ++ more) rest) → (all : List LinkUnit) → all ≡ more ++ unit ∷ [] →
     IsIndex files (units ++ all) new × ((rest : List LinkUnit) → first_duplicate units (all ++ rest) ≡ first_duplicate (units ++ all) rest)
 added_more files units more unit new told none all is =
     let longer : (units ++ more) ++ unit ∷ [] ≡ units ++ all = append_assoc units more (unit ∷ []) ∙ ap (λ (some : List LinkUnit). units ++ some) (sym is) in (
@@ -213,18 +213,18 @@ files_after first (x ∷ files) (y ∷ texts) (z ∷ scans) (suc at) within t s 
     let here : List LinkUnit = map (link_unit first x y z) z.units in
     (after.0, ap (λ (some : List LinkUnit). here ++ some) after.1 ∙ sym (append_assoc here (link_units (suc first) (take at files) (take at texts) (take at scans)) (after.0)))
 
--- a unit that is named is of its file, and its place says so
+-- a unit that is named is of its file, and its index says so
 pub of_named : (files : List ProjectFile) (units : List LinkUnit) (key : DesignUnitKey) (unit : LinkUnit) → All (IsOfFile files) units → unit_named units key ≡ Some unit → IsOfFile files unit
 of_named files units key unit all found = within units all (found_within (λ u. is_same_key key (key_of u)) units unit found) where
   within : (us : List LinkUnit) → All (IsOfFile files) us → Contains us unit → IsOfFile files unit
   within us are there = subst (IsOfFile files) (there.2) (are (there.0) unit (there.1))
 
-abbrev as_place : ℕ → Bool → Place
-as_place f b = record { file = f; is_package = b }
+abbrev as_index : ℕ → Bool → UnitIndex
+as_index f b = record { file = f; is_package = b }
 
-pub placed : (file : ℕ) (is_package : Bool) (design : DesignUnit) (unit : LinkUnit) → unit.position ≡ file → unit.scope.unit ≡ design → is_package ≡ is_package_kind design.kind → as_place file is_package ≡ unit_place unit
+pub placed : (file : ℕ) (is_package : Bool) (design : DesignUnit) (unit : LinkUnit) → unit.position ≡ file → unit.scope.unit ≡ design → is_package ≡ is_package_kind design.kind → as_index file is_package ≡ index_of_unit unit
 placed file is_package design unit at is told =
-    ap (λ (f : ℕ). as_place f is_package) (sym at) ∙ ap (as_place unit.position) (told ∙ ap (λ (d : DesignUnit). is_package_kind d.kind) (sym is))
+    ap (λ (f : ℕ). as_index f is_package) (sym at) ∙ ap (as_index unit.position) (told ∙ ap (λ (d : DesignUnit). is_package_kind d.kind) (sym is))
 
 pub no_file : ProjectFile
 no_file = record { name = record { library = []; path = [] }; command = [] }
@@ -239,7 +239,7 @@ pub none_more : (before more : List LinkUnit) → ((rest : List LinkUnit) → fi
 none_more before more one two rest = ap (first_duplicate []) (append_assoc before more rest) ∙ (one (more ++ rest) ∙ two rest)
 
 -- the units of the files up to a position are added, and no two of them have one name
-pub record AreIndexed (files : List ProjectFile) (texts : List (List ℕ)) (scans : List Scan) (count : ℕ) (index : Entries DesignUnitKey Place) : Type 0 where
+pub record AreIndexed (files : List ProjectFile) (texts : List (List ℕ)) (scans : List Scan) (count : ℕ) (index : Entries DesignUnitKey UnitIndex) : Type 0 where
   pub is : IsIndex files (link_units 0 (take count files) (take count texts) (take count scans)) index
   pub none : (rest : List LinkUnit) → first_duplicate [] (link_units 0 (take count files) (take count texts) (take count scans) ++ rest) ≡ first_duplicate (link_units 0 (take count files) (take count texts) (take count scans)) rest
 

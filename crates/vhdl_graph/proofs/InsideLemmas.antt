@@ -8,7 +8,7 @@ use Rattle.base.specs.declared.file.FileName.{FileName}
 use Rattle.base.specs.declared.project.Project.{Project}
 use Rattle.base.specs.declared.refs.Ref.{Ref}
 use Rattle.base.specs.declared.refs.UnitId.{UnitId}
-use Rattle.base_position_set.specs.declared.set.PositionSet.{PositionSet}
+use Rattle.base_collections.specs.declared.set.PositionSet.{PositionSet}
 use Rattle.vhdl_spec.specs.Dependencies.{LinkUnit, first_some, is_external, missing_of, names_unit}
 use Rattle.vhdl_scope.specs.Tables.{table_sees}
 use Rattle.vhdl_spec.proofs.SomeTests.{or_none}

@@ -63,7 +63,7 @@ module _ (library name : List ℕ) (unit : LinkUnit) where
 -- ## Units of one name
 
 first_of : (x y z : Bool) → ((x && true) || (y && false) || (z && false)) ≡ x
-first_of x y z = rw (and_true x, and_false y, and_false z) (or_none x)
+first_of x y z = rw (and_true x, and_false y, and_false z, or_none x) (or_none x)
 
 second_of : (x y z : Bool) → ((x && false) || (y && true) || (z && false)) ≡ y
 second_of x y z = rw (and_false x, and_true y, and_false z) (or_none y)

@@ -4,7 +4,7 @@ use Rattle.std.specs.Prelude.{Result, Ok, Err, if◌then◌else◌}
 use Rattle.std.specs.List.{list_any}
 use Rattle.std.specs.Option.{option_or}
 use Rattle.std.proofs.lemmas.List.Folds.{list_any_more}
-use Rattle.base_position_set.specs.declared.set.PositionSet.{PositionSet}
+use Rattle.base_collections.specs.declared.set.PositionSet.{PositionSet}
 use Rattle.base.specs.declared.file.FileName.{FileName}
 use Rattle.base.specs.declared.linking.LinkFault.{LinkFault}
 use Rattle.base.specs.declared.project.Project.{Project}

@@ -5,15 +5,15 @@ use Rattle.std.specs.Option.{option_map, option_map_or, is_some}
 use Rattle.std.specs.Str.{bytes_eq}
 use Rattle.std.proofs.lemmas.Slice.Eq.{bytes_eq-Decides}
 use Rattle.base.specs.declared.project.ProjectFile.{ProjectFile}
-use Rattle.order_spec.proofs.Finds.{found_passes, found_within, none_passes}
-use Rattle.base_position_set.specs.declared.set.PositionSet.{PositionSet}
-use Rattle.base_position_set.specs.Positions.{has}
+use Rattle.order.proofs.Finds.{found_passes, found_within, none_passes}
+use Rattle.base_collections.specs.declared.set.PositionSet.{PositionSet}
+use Rattle.base_collections.specs.Positions.{has}
 use Rattle.vhdl_spec.specs.Dependencies.{LinkUnit, is_package_kind}
-use Rattle.vhdl_spec.proofs.SomeTests.{and_both, and_cases, and_false, and_true, any_never, any_same, or_group, or_none, some_of}
+use Rattle.vhdl_spec.proofs.SomeTests.{and_both, and_cases, and_false, and_swap, and_true, any_never, any_same, or_group, or_none, some_of}
 use Rattle.vhdl_scope.proofs.Exact.{any_by}
 use Rattle.vhdl_scope.proofs.TableLemmas.{both_ways}
-use Rattle.vhdl_graph.specs.declared.index.Place.{Place}
-use Rattle.vhdl_graph.specs.Indexes.{AreDistinct, unit_place, unit_named}
+use Rattle.vhdl_graph.specs.declared.index.UnitIndex.{UnitIndex}
+use Rattle.vhdl_graph.specs.Indexes.{AreDistinct, index_of_unit, unit_named}
 use Rattle.vhdl_graph.specs.Keys.{DesignUnitKey, is_same_key, key_of}
 use Rattle.vhdl_graph.specs.Rows.{HasAdded, has_package, is_named_at, stands_at}
 use Rattle.vhdl_graph.proofs.KeyLemmas.{same_key}
@@ -78,30 +78,30 @@ by_name P units key distinct = by_found (unit_named units key) refl where
         (and_both (P first) (is_same_key key (key_of first)) told (found_passes (λ u. is_same_key key (key_of u)) units first is))
 
 -- whether there is a unit of a name
-pub any_named : (units : List LinkUnit) (key : DesignUnitKey) → is_some (option_map unit_place (unit_named units key)) ≡ list_any (λ u. is_same_key key (key_of u)) units
+pub any_named : (units : List LinkUnit) (key : DesignUnitKey) → is_some (option_map index_of_unit (unit_named units key)) ≡ list_any (λ u. is_same_key key (key_of u)) units
 any_named [] key = refl
 any_named (u ∷ units) key = by_test (is_same_key key (key_of u)) refl (any_named units key) where
-  by_test : (b : Bool) → is_same_key key (key_of u) ≡ b → is_some (option_map unit_place (unit_named units key)) ≡ list_any (λ u. is_same_key key (key_of u)) units → is_some (option_map unit_place (cond b (Some u) (unit_named units key))) ≡ (b || list_any (λ u. is_same_key key (key_of u)) units)
+  by_test : (b : Bool) → is_same_key key (key_of u) ≡ b → is_some (option_map index_of_unit (unit_named units key)) ≡ list_any (λ u. is_same_key key (key_of u)) units → is_some (option_map index_of_unit (cond b (Some u) (unit_named units key))) ≡ (b || list_any (λ u. is_same_key key (key_of u)) units)
   by_test true told rest = refl
   by_test false told rest = rest
 
 -- where the unit of a name stands
-at_place : (at : ℕ) (found : Option LinkUnit) → option_map_or (λ (p : Place). p.file == at) (option_map unit_place found) false ≡ option_map_or (λ (u : LinkUnit). u.position == at) found false
-at_place at None = refl
-at_place at (Some u) = refl
+at_index : (at : ℕ) (found : Option LinkUnit) → option_map_or (λ (p : UnitIndex). p.file == at) (option_map index_of_unit found) false ≡ option_map_or (λ (u : LinkUnit). u.position == at) found false
+at_index at None = refl
+at_index at (Some u) = refl
 
-pub put_at : (units : List LinkUnit) (key : DesignUnitKey) (place : Option Place) (at : ℕ) → AreDistinct units → place ≡ option_map unit_place (unit_named units key) → option_map_or (λ (p : Place). p.file == at) place false ≡ is_named_at units key at
-put_at units key place at distinct is =
-    ap (λ (o : Option Place). option_map_or (λ (p : Place). p.file == at) o false) is ∙ (at_place at (unit_named units key) ∙ sym (by_name (λ u. u.position == at) units key distinct))
+pub put_at : (units : List LinkUnit) (key : DesignUnitKey) (unit_index : Option UnitIndex) (at : ℕ) → AreDistinct units → unit_index ≡ option_map index_of_unit (unit_named units key) → option_map_or (λ (p : UnitIndex). p.file == at) unit_index false ≡ is_named_at units key at
+put_at units key unit_index at distinct is =
+    ap (λ (o : Option UnitIndex). option_map_or (λ (p : UnitIndex). p.file == at) o false) is ∙ (at_index at (unit_named units key) ∙ sym (by_name (λ u. u.position == at) units key distinct))
 
-as_package : (found : Option LinkUnit) → option_map_or (λ (p : Place). p.is_package) (option_map unit_place found) false ≡ option_map_or (λ (u : LinkUnit). is_package_kind u.scope.unit.kind) found false
+as_package : (found : Option LinkUnit) → option_map_or (λ (p : UnitIndex). p.is_package) (option_map index_of_unit found) false ≡ option_map_or (λ (u : LinkUnit). is_package_kind u.scope.unit.kind) found false
 as_package None = refl
 as_package (Some u) = refl
 
 -- whether the unit of a name is a package
-pub package_of : (units : List LinkUnit) (key : DesignUnitKey) (place : Option Place) → AreDistinct units → place ≡ option_map unit_place (unit_named units key) → option_map_or (λ (p : Place). p.is_package) place false ≡ has_package units key
-package_of units key place distinct is =
-    ap (λ (o : Option Place). option_map_or (λ (p : Place). p.is_package) o false) is
+pub package_of : (units : List LinkUnit) (key : DesignUnitKey) (unit_index : Option UnitIndex) → AreDistinct units → unit_index ≡ option_map index_of_unit (unit_named units key) → option_map_or (λ (p : UnitIndex). p.is_package) unit_index false ≡ has_package units key
+package_of units key unit_index distinct is =
+    ap (λ (o : Option UnitIndex). option_map_or (λ (p : UnitIndex). p.is_package) o false) is
     ∙ (as_package (unit_named units key)
     ∙ (sym (by_name (λ u. is_package_kind u.scope.unit.kind) units key distinct)
     ∙ any_same (λ u. is_package_kind u.scope.unit.kind && is_same_key key (key_of u)) (λ u. is_same_key key (key_of u) && is_package_kind u.scope.unit.kind) units (λ u. and_swap (is_package_kind u.scope.unit.kind) (is_same_key key (key_of u)))))

@@ -1,5 +1,5 @@
 -- The order of the keys of design units, which is that of their parts, and that the test of two keys decides whether they are equal.
-use Rattle.std.specs.Prelude.{◌≡◌, ℕ, Bool, true, false, ◌&&◌, List}
+use Rattle.std.specs.Prelude.{◌≡◌, Bool, true, false, ◌&&◌}
 use Rattle.std.proofs.Common.{refl, sym, ap, ◌∙◌}
 use Rattle.std.specs.Bool.{Decides}
 use Rattle.std.specs.Cmp.{IsTotalOrder, on_total}
@@ -7,7 +7,7 @@ use Rattle.std.specs.Cmp.Lexicographic.{nat_list_eq_equiv}
 use Rattle.std.specs.Ordering.{is_eq, on}
 use Rattle.std.specs.Str.{bytes_eq}
 use Rattle.std.specs.declared.cmp.Ordering.{Ordering}
-use Rattle.vhdl_keys.specs.KeyParts.{KeyParts, is_same_flag, is_same_parts, parts_cmp, parts_decide, parts_ties, parts_total}
+use Rattle.vhdl_units.specs.KeyParts.{KeyParts, is_same_flag, is_same_parts, parts_cmp, parts_decide, parts_ties, parts_total}
 use Rattle.vhdl_graph.specs.Keys.{DesignUnitKey, is_same_key}
 
 -- what tells keys apart

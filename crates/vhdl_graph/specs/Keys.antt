@@ -6,7 +6,7 @@ use Rattle.base.specs.declared.design.UnitKind.{UnitKind}
 use Rattle.base.specs.declared.design.UnitKind.TheVariants as kinds
 use Rattle.vhdl_spec.specs.References.{owner_name}
 use Rattle.vhdl_spec.specs.Dependencies.{LinkUnit}
-use Rattle.vhdl_keys.specs.KeyParts.{is_same_flag}
+use Rattle.vhdl_units.specs.KeyParts.{is_same_flag}
 
 -- what names a design unit
 pub record DesignUnitKey : Type 0 where

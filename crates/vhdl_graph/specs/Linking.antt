@@ -13,7 +13,7 @@ use Rattle.base.specs.declared.project.Project.{Project}
 use Rattle.base.specs.declared.project.ProjectFile.{ProjectFile}
 use Rattle.base.specs.declared.refs.Ref.{Ref}
 use Rattle.base.specs.declared.refs.UnitId.{UnitId}
-use Rattle.base_position_set.specs.declared.set.PositionSet.{PositionSet}
+use Rattle.base_collections.specs.declared.set.PositionSet.{PositionSet}
 use Rattle.vhdl_spec.specs.References.{work}
 use Rattle.vhdl_spec.specs.Visibility.{sees}
 use Rattle.vhdl_spec.specs.Dependencies.{LinkUnit, edges_of, first_missing, first_some, link_unit, missing_of, names_unit, warnings_of}

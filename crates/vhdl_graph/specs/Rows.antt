@@ -3,8 +3,8 @@ use Rattle.std.specs.Prelude.{◌≡◌, ℕ, ◌==◌, Bool, false, ◌&&◌, �
 use Rattle.std.specs.List.{list_any}
 use Rattle.std.specs.Option.{option_map_or}
 use Rattle.base.specs.declared.project.Pair.{Pair}
-use Rattle.base_position_set.specs.declared.set.PositionSet.{PositionSet}
-use Rattle.base_position_set.specs.Positions.{has}
+use Rattle.base_collections.specs.declared.set.PositionSet.{PositionSet}
+use Rattle.base_collections.specs.Positions.{has}
 use Rattle.vhdl_spec.specs.Dependencies.{LinkUnit, is_package_kind}
 use Rattle.vhdl_graph.specs.Keys.{DesignUnitKey, is_same_key, key_of}
 

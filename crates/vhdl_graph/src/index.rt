@@ -1,34 +1,34 @@
 //! The design units of a project by name.
 
 ghost use Rattle.std.specs.Prelude.{◌≡◌, ℕ, ◌<◌, ◌≤◌, List, [], Some, IfOk, OnOk, length, map, slice_get};
-ghost use Rattle.base_key_index.specs.Maps.{get};
+ghost use Rattle.base_collections.specs.Maps.{get};
 ghost use Rattle.base.specs.declared.design.Scan.{Scan};
 ghost use Rattle.base.specs.declared.project.ProjectFile.{ProjectFile};
 ghost use Rattle.base.specs.declared.linking.LinkFault.TheVariants.{DuplicateUnit};
 ghost use Rattle.vhdl_spec.specs.Dependencies.{LinkUnit, duplicate_of, first_duplicate, is_package_kind, link_unit, link_units, spelled_by};
-ghost use Rattle.vhdl_outlines.specs.Outlines.{FilesAreOf};
+ghost use Rattle.vhdl_outline.specs.Outlines.{FilesAreOf};
 ghost use Rattle.vhdl_graph.specs.Keys.{is_same_key};
-ghost use Rattle.vhdl_graph.specs.Indexes.{AddsAll, AddsUnit, ArePlacesOfFiles, GivesOrFaults, IsIndex, IsOfFile, IsUnitOf, Refuses};
+ghost use Rattle.vhdl_graph.specs.Indexes.{AddsAll, AddsUnit, ArePositionsOfFiles, GivesOrFaults, IsIndex, IsOfFile, IsUnitOf, Refuses};
 
 use crate::key::{DesignUnitKey, design_unit_key};
-use crate::spelling::spelled;
+use crate::spelling::spell_unit;
 use base::{FILE_LIMIT, FileName, Items, LinkFault, NoMemory, Project, Unit, UnitKind};
-use base_key_index::KeyMap;
+use base_collections::KeyMap;
 use std::alloc::Global;
-use vhdl_outlines::{FileOutline, room_for_units};
+use vhdl_outline::{FileOutline, room_for_units};
 
 /// The position of the file of a unit, and whether the unit is a package.
 #[derive(Clone, Copy)]
-pub struct Place {
+pub struct UnitIndex {
     pub file: u32,
     pub is_package: bool,
 }
 
 /// The units by name, in project and unit order.
-pub type Index = KeyMap<DesignUnitKey, Place>;
+pub type Index = KeyMap<DesignUnitKey, UnitIndex>;
 
 /// Where the unit of a name is.
-pub fn place_of(index: &Index, key: &DesignUnitKey) -> Option<Place>
+pub fn find_unit(index: &Index, key: &DesignUnitKey) -> Option<UnitIndex>
     ensures { result ≡ get is_same_key index.now key.now }
 {
     index.get(key)
@@ -55,7 +55,7 @@ fn duplicate(
         (spelled_by second.now.library unit.now unit.now.kind) first.now second.now) }
 {
     Ok(LinkFault::DuplicateUnit {
-        unit: spelled(alloc, &second.library, unit)?,
+        unit: spell_unit(alloc, &second.library, unit)?,
         first: first.copy(alloc)?,
         second: second.copy(alloc)?,
     })
@@ -89,8 +89,8 @@ fn add_unit(
     index: &mut Index,
 ) -> Result<(), LinkFault>
     requires file { file < length project.now.files }
-    requires places { ArePlacesOfFiles (length project.now.files) index.now }
-    ensures places { OnOk result (ArePlacesOfFiles (length project.now.files) index.new) }
+    requires indices { ArePositionsOfFiles (length project.now.files) index.now }
+    ensures indices { OnOk result (ArePositionsOfFiles (length project.now.files) index.new) }
     ensures added { (units : List LinkUnit) (other : LinkUnit) →
         IsIndex project.now.files units index.old →
         IsUnitOf project.now.files file unit.now other →
@@ -98,8 +98,8 @@ fn add_unit(
 {
     let key = design_unit_key(alloc, &project.files.get(file as u64).name.library, unit)?;
     let is_package = is_package(unit.kind);
-    match index.insert(key, Place { file, is_package })? {
-        Some(place) => refuse(alloc, project, place.file, file, unit),
+    match index.insert(key, UnitIndex { file, is_package })? {
+        Some(unit_index) => refuse(alloc, project, unit_index.file, file, unit),
         None => Ok(()),
     }
 }
@@ -113,8 +113,8 @@ fn add_file(
     index: &mut Index,
 ) -> Result<(), LinkFault>
     requires file { file < length project.now.files }
-    requires places { ArePlacesOfFiles (length project.now.files) index.now }
-    ensures places { OnOk result (ArePlacesOfFiles (length project.now.files) index.new) }
+    requires indices { ArePositionsOfFiles (length project.now.files) index.now }
+    ensures indices { OnOk result (ArePositionsOfFiles (length project.now.files) index.new) }
     ensures added { (units : List LinkUnit) (named : ProjectFile) (text : List ℕ) (scan : Scan) →
         IsIndex project.now.files units index.old →
         slice_get project.now.files file ≡ Some named →
@@ -136,7 +136,7 @@ pub fn index_of(
 ) -> Result<Index, LinkFault>
     requires few { length project.now.files ≤ FILE_LIMIT }
     requires each { length files.now ≡ length project.now.files }
-    ensures places { IfOk result (λ index. ArePlacesOfFiles (length project.now.files) index) }
+    ensures indices { IfOk result (λ index. ArePositionsOfFiles (length project.now.files) index) }
     ensures index { (texts : List (List ℕ)) (scans : List Scan) →
         FilesAreOf texts scans files.now → GivesOrFaults
         (first_duplicate [] (link_units 0 project.now.files texts scans))

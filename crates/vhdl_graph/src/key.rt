@@ -5,18 +5,18 @@ ghost use Rattle.std.specs.Cmp.Rules.{comparing, hashing};
 ghost use Rattle.std.proofs.Common.{refl, rules};
 ghost use Rattle.std.specs.Cmp.{partial_order_from_agreeing_total};
 ghost use Rattle.std.specs.Ordering.{as_partial_cmp};
-ghost use Rattle.vhdl_keys.specs.KeyParts.{flags_cmp, libraries_cmp, owners_cmp};
+ghost use Rattle.vhdl_units.specs.KeyParts.{flags_cmp, libraries_cmp, owners_cmp};
 ghost use Rattle.vhdl_graph.specs.KeyOrder.{key_cmp, key_parts, key_ties, key_total, keys_decide};
 ghost use Rattle.vhdl_graph.specs.Keys.{is_same_key, primary_key, architecture_key, body_key, design_unit_key};
 
 use base::{NoMemory, Text, Unit, UnitKind};
-use base_key_index::Key;
+use base_collections::Key;
 use std::alloc::Global;
 use std::cmp::Ordering;
 use std::hash::{Hash, Hasher};
 use std::marker::Model;
 use std::mem::replace;
-use vhdl_keys::{order_of_names, owner_name};
+use vhdl_units::{order_of_names, owner_name};
 
 static NOTHING: [u8; 0] = *b"";
 
@@ -225,7 +225,7 @@ pub fn fill(alloc: Global, text: &mut Text, bytes: &[u8]) -> Result<(), NoMemory
 }
 
 /// A name, in the memory of one that isn't used any more.
-fn joined(
+fn reuse_key(
     used: DesignUnitKey,
     primary: bool,
     body: bool,
@@ -274,7 +274,7 @@ fn put_key(
     }) }
 {
     let used = replace(key, no_key(alloc));
-    *key = joined(used, primary, body, library, entity, name)?;
+    *key = reuse_key(used, primary, body, library, entity, name)?;
     Ok(())
 }
 

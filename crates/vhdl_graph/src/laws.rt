@@ -3,7 +3,7 @@
 ghost use Rattle.std.specs.Prelude.{◌≤◌, List, length};
 ghost use Rattle.base.specs.declared.project.Project.{Project};
 ghost use Rattle.vhdl_spec.specs.Dependencies.{LinkUnit, edges_of};
-ghost use Rattle.order_spec.specs.BuildOrder.{AreEdges};
+ghost use Rattle.order.specs.BuildOrder.{AreEdges};
 
 use base::FILE_LIMIT;
 

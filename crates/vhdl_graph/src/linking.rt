@@ -4,11 +4,11 @@ ghost use Rattle.std.specs.Prelude.{◌≡◌, ◌≤◌, List, IfOk, length};
 ghost use Rattle.std.specs.List.{All};
 ghost use Rattle.base.specs.declared.design.Scan.{Scan};
 ghost use Rattle.vhdl_spec.specs.Dependencies.{link_of, link_units};
-ghost use Rattle.order_spec.specs.BuildOrder.{AreEdges};
-ghost use Rattle.vhdl_outlines.specs.Outlines.{AreOutlined, AreOutlinesOf};
-ghost use Rattle.vhdl_outlines.specs.Roles.{IsTextSmall};
+ghost use Rattle.order.specs.BuildOrder.{AreEdges};
+ghost use Rattle.vhdl_outline.specs.Outlines.{AreOutlined, AreOutlinesOf};
+ghost use Rattle.vhdl_outline.specs.Roles.{IsTextSmall};
 ghost use Rattle.vhdl_scope.specs.Tables.{AreVisible};
-ghost use Rattle.vhdl_graph.specs.Indexes.{ArePlacesOfFiles};
+ghost use Rattle.vhdl_graph.specs.Indexes.{ArePositionsOfFiles};
 ghost use Rattle.vhdl_graph.specs.Linking.{AreRowsOf, GivesAll, Knows};
 ghost use Rattle.vhdl_graph.specs.Results.{GivesLinks};
 
@@ -18,9 +18,9 @@ use crate::pairs::rows_of_pairs;
 use crate::seen::{Tables, no_scratch};
 use crate::units::link_file;
 use base::{Edges, FILE_LIMIT, LinkFault, Linked, Project, TextList, WarningList};
-use base_position_set::PositionSet;
+use base_collections::PositionSet;
 use std::alloc::Global;
-use vhdl_outlines::Outlines;
+use vhdl_outline::Outlines;
 use vhdl_scope::VisibleLibraries;
 
 /// Takes up the references of all files.
@@ -37,7 +37,7 @@ fn link_files(
     requires small { All IsTextSmall texts.now }
     requires outlined { AreOutlined texts.now outlines.now }
     requires rows { AreRowsOf project.now rows.now }
-    requires places { ArePlacesOfFiles (length project.now.files) tables.now.index }
+    requires indices { ArePositionsOfFiles (length project.now.files) tables.now.index }
     requires seen { (scans : List Scan) → AreOutlinesOf texts.now scans outlines.now →
         AreVisible project.now.files texts.now scans tables.now.sets.now }
     requires known { (scans : List Scan) → AreOutlinesOf texts.now scans outlines.now →

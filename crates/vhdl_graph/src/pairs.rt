@@ -5,7 +5,7 @@ ghost use Rattle.std.specs.List.{list_any};
 ghost use Rattle.vhdl_graph.specs.Rows.{has_pair, is_in_row};
 
 use base::{FILE_LIMIT, NoMemory, Pair, Project};
-use base_position_set::PositionSet;
+use base_collections::PositionSet;
 use std::alloc::Global;
 
 /// Rows of so many files, of which none depends on another.

@@ -2,19 +2,19 @@
 
 ghost use Rattle.std.specs.Prelude.{◌≡◌, ◌&&◌, ◌≤◌, Bool, true, List, OnOk};
 ghost use Rattle.std.specs.List.{list_any};
-ghost use Rattle.base_key_index.specs.Maps.{get};
+ghost use Rattle.base_collections.specs.Maps.{get};
 ghost use Rattle.base.specs.declared.project.ProjectFile.{ProjectFile};
 ghost use Rattle.vhdl_spec.specs.Dependencies.{LinkUnit, is_body, is_given_architecture, is_package_kind, is_primary};
-ghost use Rattle.vhdl_graph.specs.Indexes.{ArePlacesOfFiles, IsIndex, HoldsUnits};
+ghost use Rattle.vhdl_graph.specs.Indexes.{ArePositionsOfFiles, IsIndex, HoldsUnits};
 ghost use Rattle.vhdl_graph.specs.Keys.{is_same_key, primary_key};
 ghost use Rattle.vhdl_graph.specs.Meanings.{names_in};
 ghost use Rattle.vhdl_graph.specs.Rows.{HasAdded, has_package, stands_at};
 
-use crate::index::{Index, Place, place_of};
+use crate::index::{Index, UnitIndex, find_unit};
 use crate::key::{DesignUnitKey, put_architecture_key, put_body_key};
 use crate::rows::{put_found, put_named};
 use base::{FILE_LIMIT, MaybeText, NoMemory, Ref, Text};
-use base_position_set::PositionSet;
+use base_collections::PositionSet;
 use std::alloc::Global;
 
 /// Whether a primary unit of a name is a package.
@@ -22,8 +22,8 @@ fn is_package(index: &Index, key: &DesignUnitKey) -> bool
     ensures { (files : List ProjectFile) (units : List LinkUnit) → IsIndex files units index.now →
         result ≡ has_package units key.now }
 {
-    match place_of(index, key) {
-        Some(place) => place.is_package,
+    match find_unit(index, key) {
+        Some(unit_index) => unit_index.is_package,
         None => false,
     }
 }
@@ -38,7 +38,7 @@ fn put_architecture(
     architecture: &MaybeText,
     other: &mut DesignUnitKey,
 ) -> Result<(), NoMemory>
-    requires { ArePlacesOfFiles FILE_LIMIT index.now }
+    requires { ArePositionsOfFiles FILE_LIMIT index.now }
     ensures { OnOk result ((files : List ProjectFile) (units : List LinkUnit) →
         IsIndex files units index.now → HasAdded (stands_at
         (is_given_architecture library.now entity.now architecture.now) units) row.old row.new) }
@@ -62,7 +62,7 @@ fn put_body(
     name: &Text,
     other: &mut DesignUnitKey,
 ) -> Result<(), NoMemory>
-    requires { ArePlacesOfFiles FILE_LIMIT index.now }
+    requires { ArePositionsOfFiles FILE_LIMIT index.now }
     ensures { OnOk result ((files : List ProjectFile) (units : List LinkUnit) →
         IsIndex files units index.now →
         HasAdded (stands_at (is_body library.now name.now) units) row.old row.new) }
@@ -82,7 +82,7 @@ fn put_package_body(
     name: &Text,
     other: &mut DesignUnitKey,
 ) -> Result<(), NoMemory>
-    requires { ArePlacesOfFiles FILE_LIMIT index.now }
+    requires { ArePositionsOfFiles FILE_LIMIT index.now }
     ensures { OnOk result ((files : List ProjectFile) (units : List LinkUnit) →
         IsIndex files units index.now →
         HasAdded (λ at. stands_at (is_body library.now name.now) units at
@@ -95,8 +95,8 @@ fn put_package_body(
     }
 }
 
-/// Puts the files in that have what a reference names in a library. `key` is that of the primary unit, and `place` its
-/// place. Other names are put in the place of `other`.
+/// Puts the files in that have what a reference names in a library. `key` is that of the primary unit, and `unit_index` its
+/// index. Other names are put in the place of `other`.
 pub fn put_ref(
     alloc: Global,
     row: &mut PositionSet,
@@ -105,17 +105,17 @@ pub fn put_ref(
     library: &Text,
     reference: &Ref,
     key: &DesignUnitKey,
-    place: Option<Place>,
+    unit_index: Option<UnitIndex>,
     other: &mut DesignUnitKey,
 ) -> Result<(), NoMemory>
-    requires places { ArePlacesOfFiles FILE_LIMIT index.now }
+    requires indices { ArePositionsOfFiles FILE_LIMIT index.now }
     requires key { key.now ≡ primary_key library.now reference.now.name }
-    requires place { place ≡ get is_same_key index.now key.now }
+    requires unit_index { unit_index ≡ get is_same_key index.now key.now }
     ensures { OnOk result ((files : List ProjectFile) (units : List LinkUnit) →
         IsIndex files units index.now → HasAdded (stands_at
         (names_in bodies units library.now reference.now) units) row.old row.new) }
 {
-    put_found(row, index, key, place);
+    put_found(row, index, key, unit_index);
     put_architecture(
         alloc,
         row,

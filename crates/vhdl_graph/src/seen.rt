@@ -6,28 +6,28 @@ ghost use Rattle.std.specs.Option.{option_map};
 ghost use Rattle.std.specs.Str.{bytes_eq};
 ghost use Rattle.vhdl_spec.specs.References.{work};
 ghost use Rattle.vhdl_spec.specs.Dependencies.{LinkUnit, missing_of, names_unit};
-ghost use Rattle.vhdl_lex.specs.Pieces.{LiesIn};
+ghost use Rattle.vhdl_lex.specs.LexicalElements.{LiesIn};
 ghost use Rattle.vhdl_units.specs.Names.{token_name};
-ghost use Rattle.vhdl_refs.specs.Mentions.{NamedLiesIn, named_ref, structural_of};
+ghost use Rattle.vhdl_outline.specs.UnresolvedRefs.{NamedLiesIn, named_ref, structural_of};
 ghost use Rattle.vhdl_scope.specs.Tables.{table_sees};
-ghost use Rattle.vhdl_graph.specs.Indexes.{ArePlacesOfFiles, GivesOrFaults};
+ghost use Rattle.vhdl_graph.specs.Indexes.{ArePositionsOfFiles, GivesOrFaults};
 ghost use Rattle.vhdl_graph.specs.Libraries.{stands_outside};
 ghost use Rattle.vhdl_graph.specs.Linking.{IsLooked, Knows, LinksRefs, Stands, is_inside, named_library, seen_library};
 ghost use Rattle.vhdl_graph.specs.Meanings.{missing_in, names_in};
 ghost use Rattle.vhdl_graph.specs.Rows.{HasAdded, stands_at};
 
 use crate::check::check_ref;
-use crate::index::{Index, place_of};
+use crate::index::{Index, find_unit};
 use crate::key::{DesignUnitKey, fill, no_key, put_primary_key};
 use crate::libraries::{Libraries, is_external};
 use crate::refs::put_ref;
 use base::{
     FILE_LIMIT, FileName, LinkFault, MaybeText, NoMemory, Project, Ref, Text, Token, Unit, UnitId,
 };
-use base_position_set::PositionSet;
+use base_collections::PositionSet;
 use std::alloc::Global;
 use std::mem::replace;
-use vhdl_refs::{NamedRef, no_ref, ref_in, structural_ref};
+use vhdl_outline::{NamedRef, no_ref, ref_in, structural_ref};
 use vhdl_scope::VisibleLibraries;
 use vhdl_units::{name_of_token, token_has_name};
 
@@ -191,7 +191,7 @@ fn link_inside(
     other: &mut DesignUnitKey,
     row: &mut PositionSet,
 ) -> Result<(), LinkFault>
-    requires places { ArePlacesOfFiles FILE_LIMIT tables.now.index }
+    requires indices { ArePositionsOfFiles FILE_LIMIT tables.now.index }
     requires inside { stands_outside tables.now.libraries library.now ≡ false }
     ensures { (units : List LinkUnit) → Knows project.now units tables.now →
         GivesOrFaults (missing_in project.now units file.now library.now reference.now)
@@ -200,7 +200,7 @@ fn link_inside(
         row.old row.new) result }
 {
     put_primary_key(alloc, key, library, &reference.name)?;
-    let place = place_of(&tables.index, key);
+    let unit_index = find_unit(&tables.index, key);
     check_ref(
         alloc,
         project,
@@ -210,7 +210,7 @@ fn link_inside(
         library,
         reference,
         key,
-        place,
+        unit_index,
         other,
     )?;
     put_ref(
@@ -221,7 +221,7 @@ fn link_inside(
         library,
         reference,
         key,
-        place,
+        unit_index,
         other,
     )?;
     Ok(())
@@ -239,7 +239,7 @@ fn link_ref(
     other: &mut DesignUnitKey,
     row: &mut PositionSet,
 ) -> Result<(), LinkFault>
-    requires places { ArePlacesOfFiles FILE_LIMIT tables.now.index }
+    requires indices { ArePositionsOfFiles FILE_LIMIT tables.now.index }
     requires inside { is_inside tables.now _id file.now.library reference.now.library ≡ true }
     ensures { (units : List LinkUnit) (unit : LinkUnit) → Knows project.now units tables.now →
         Stands units tables.now _id file.now unit →
@@ -264,7 +264,7 @@ fn link_own(
     scratch: &mut Scratch,
     row: &mut PositionSet,
 ) -> Result<(), LinkFault>
-    requires places { ArePlacesOfFiles FILE_LIMIT tables.now.index }
+    requires indices { ArePositionsOfFiles FILE_LIMIT tables.now.index }
     requires file { id.file < length tables.now.sets.now.starts }
     ensures known { OnOk result (IsLooked tables.now id file.now.library scratch.new.looked) }
     ensures links { (units : List LinkUnit) (unit : LinkUnit) → Knows project.now units tables.now →
@@ -308,7 +308,7 @@ pub fn link_structural(
     scratch: &mut Scratch,
     row: &mut PositionSet,
 ) -> Result<(), LinkFault>
-    requires places { ArePlacesOfFiles FILE_LIMIT tables.now.index }
+    requires indices { ArePositionsOfFiles FILE_LIMIT tables.now.index }
     requires file { id.file < length tables.now.sets.now.starts }
     ensures known { OnOk result (IsLooked tables.now id file.now.library scratch.new.looked) }
     ensures links { (units : List LinkUnit) (unit : LinkUnit) →
@@ -340,7 +340,7 @@ fn link_named(
     scratch: &mut Scratch,
     row: &mut PositionSet,
 ) -> Result<(), LinkFault>
-    requires places { ArePlacesOfFiles FILE_LIMIT tables.now.index }
+    requires indices { ArePositionsOfFiles FILE_LIMIT tables.now.index }
     requires file { id.file < length tables.now.sets.now.starts }
     requires lies { NamedLiesIn text.now named.now }
     requires known { IsLooked tables.now id file.now.library scratch.old.looked }
@@ -392,7 +392,7 @@ pub fn link_refs(
     scratch: &mut Scratch,
     row: &mut PositionSet,
 ) -> Result<(), LinkFault>
-    requires places { ArePlacesOfFiles FILE_LIMIT tables.now.index }
+    requires indices { ArePositionsOfFiles FILE_LIMIT tables.now.index }
     requires file { id.file < length tables.now.sets.now.starts }
     requires lie { All (NamedLiesIn text.now) refs.now }
     requires known { IsLooked tables.now id file.now.library scratch.old.looked }

@@ -6,7 +6,7 @@ ghost use Rattle.vhdl_spec.specs.Dependencies.{spelled_by};
 
 use base::{NoMemory, Text, Unit, UnitKind};
 use std::alloc::Global;
-use vhdl_keys::owner_name;
+use vhdl_units::owner_name;
 
 static DOT: [u8; 1] = *b".";
 
@@ -17,7 +17,7 @@ static CLOSING: [u8; 1] = *b")";
 static BODY: [u8; 5] = *b"body ";
 
 /// Four texts in one.
-fn joined(
+fn concatenate(
     alloc: Global,
     first: &[u8],
     second: &[u8],
@@ -35,29 +35,29 @@ fn joined(
 }
 
 /// `L.U`, `L.E(A)` or `body L.P`.
-pub fn spelled(alloc: Global, library: &Text, unit: &Unit) -> Result<Text, NoMemory>
+pub fn spell_unit(alloc: Global, library: &Text, unit: &Unit) -> Result<Text, NoMemory>
     ensures { IfOk result (λ text. text ≡ spelled_by library.now unit.now unit.now.kind) }
 {
     let library = library.bytes();
     let name = unit.name.bytes();
     match unit.kind {
         UnitKind::Architecture => {
-            let inner = joined(
+            let inner = concatenate(
                 alloc,
                 owner_name(&unit.owner),
                 OPENING.as_slice(),
                 name,
                 CLOSING.as_slice(),
             )?;
-            Ok(Text::from_vec(joined(alloc, library, DOT.as_slice(), inner.as_slice(), b"")?))
+            Ok(Text::from_vec(concatenate(alloc, library, DOT.as_slice(), inner.as_slice(), b"")?))
         }
-        UnitKind::PackageBody => Ok(Text::from_vec(joined(
+        UnitKind::PackageBody => Ok(Text::from_vec(concatenate(
             alloc,
             BODY.as_slice(),
             library,
             DOT.as_slice(),
             name,
         )?)),
-        _ => Ok(Text::from_vec(joined(alloc, library, DOT.as_slice(), name, b"")?)),
+        _ => Ok(Text::from_vec(concatenate(alloc, library, DOT.as_slice(), name, b"")?)),
     }
 }

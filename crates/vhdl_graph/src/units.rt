@@ -4,19 +4,18 @@ ghost use Rattle.std.specs.Prelude.{◌≡◌, ◌<◌, ◌≤◌, ◌++◌, Som
 ghost use Rattle.base.specs.declared.design.Scan.{Scan};
 ghost use Rattle.base.specs.declared.project.ProjectFile.{ProjectFile};
 ghost use Rattle.vhdl_spec.specs.Dependencies.{LinkUnit, link_unit};
-ghost use Rattle.vhdl_refs.specs.Mentions.{MentionsLieIn, named_ref, structural_of};
-ghost use Rattle.vhdl_outlines.specs.Outlines.{IsOutlineOf, OutlineLiesIn};
-ghost use Rattle.vhdl_graph.specs.Indexes.{ArePlacesOfFiles, GivesOrFaults};
+ghost use Rattle.vhdl_outline.specs.UnresolvedRefs.{UnresolvedRefsLieIn, named_ref, structural_of};
+ghost use Rattle.vhdl_outline.specs.Outlines.{IsOutlineOf, OutlineLiesIn};
+ghost use Rattle.vhdl_graph.specs.Indexes.{ArePositionsOfFiles, GivesOrFaults};
 ghost use Rattle.vhdl_graph.specs.Linking.{FileGives, Knows, StandAll, Stands, unit_lacks, refers_from};
 ghost use Rattle.vhdl_graph.specs.Rows.{HasAdded};
 
 use crate::seen::{Scratch, Tables, link_refs, link_structural};
 use crate::warnings::note_uses;
 use base::{FILE_LIMIT, FileName, LinkFault, Project, TEXT_LIMIT, Unit, UnitId, WarningList};
-use base_position_set::PositionSet;
+use base_collections::PositionSet;
 use std::alloc::Global;
-use vhdl_outlines::FileOutline;
-use vhdl_refs::Mentions;
+use vhdl_outline::{FileOutline, UnresolvedRefs};
 
 /// Takes up the references of a unit.
 fn link_unit(
@@ -27,17 +26,17 @@ fn link_unit(
     file: &FileName,
     text: &[u8],
     design: &Unit,
-    mentions: &Mentions,
+    unresolved: &UnresolvedRefs,
     scratch: &mut Scratch,
     row: &mut PositionSet,
 ) -> Result<(), LinkFault>
-    requires places { ArePlacesOfFiles FILE_LIMIT tables.now.index }
+    requires indices { ArePositionsOfFiles FILE_LIMIT tables.now.index }
     requires file { id.file < length tables.now.sets.now.starts }
-    requires lie { MentionsLieIn text.now mentions.now }
+    requires lie { UnresolvedRefsLieIn text.now unresolved.now }
     ensures { (units : List LinkUnit) (unit : LinkUnit) →
         Knows project.now units tables.now → Stands units tables.now id file.now unit →
-        unit.refs ≡ structural_of mentions.now.configured design.now design.now.kind
-        ++ map (named_ref text.now) mentions.now.refs →
+        unit.refs ≡ structural_of unresolved.now.configured design.now design.now.kind
+        ++ map (named_ref text.now) unresolved.now.refs →
         GivesOrFaults (unit_lacks project.now units unit)
         (λ value. HasAdded (refers_from project.now units unit unit.refs) row.old row.new) result }
 {
@@ -48,7 +47,7 @@ fn link_unit(
         id,
         file,
         design,
-        &mentions.configured,
+        &unresolved.configured,
         scratch,
         row,
     )?;
@@ -59,7 +58,7 @@ fn link_unit(
         id,
         file,
         text,
-        mentions.refs.as_slice(),
+        unresolved.refs.as_slice(),
         scratch,
         row,
     )
@@ -77,7 +76,7 @@ pub fn link_file(
     row: &mut PositionSet,
     warnings: &mut WarningList,
 ) -> Result<(), LinkFault>
-    requires places { ArePlacesOfFiles FILE_LIMIT tables.now.index }
+    requires indices { ArePositionsOfFiles FILE_LIMIT tables.now.index }
     requires file { file < length project.now.files }
     requires each { length tables.now.sets.now.starts ≡ length project.now.files }
     requires small { length text.now ≤ TEXT_LIMIT }
@@ -96,11 +95,11 @@ pub fn link_file(
             unit: number as u32,
         };
         let design = outline.units.get(number);
-        let mentions = outline.mentions.get(number);
+        let unresolved = outline.unresolved.get(number);
         link_unit(
-            alloc, project, tables, id, name, text, design, mentions, scratch, row,
+            alloc, project, tables, id, name, text, design, unresolved, scratch, row,
         )?;
-        let whole = mentions.whole.as_slice();
+        let whole = unresolved.whole.as_slice();
         note_uses(alloc, tables, id, name, text, whole, warnings)?;
     }
     Ok(())

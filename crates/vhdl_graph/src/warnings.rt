@@ -2,7 +2,7 @@
 
 ghost use Rattle.std.specs.Prelude.{◌≡◌, ◌++◌, ◌∷◌, [], ◌<◌, if◌then◌else◌, OnOk, length};
 ghost use Rattle.std.specs.List.{All, flat_map};
-ghost use Rattle.vhdl_lex.specs.Pieces.{LiesIn};
+ghost use Rattle.vhdl_lex.specs.LexicalElements.{LiesIn};
 ghost use Rattle.vhdl_units.specs.Names.{token_name};
 ghost use Rattle.vhdl_graph.specs.Libraries.{knows};
 ghost use Rattle.vhdl_graph.specs.Linking.{noted, noted_library};

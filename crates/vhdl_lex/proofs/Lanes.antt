@@ -42,34 +42,34 @@ module _ (test : ℕ → Bool) (text : List ℕ) (base stops : ℕ) (ms : List B
     abbrev rest : ℕ
     rest = stops / 2 ^ k
 
-    abbrev place : ℕ
-    place = trailing_zeros w64 rest
+    abbrev offset : ℕ
+    offset = trailing_zeros w64 rest
 
     rest_small : rest < 2 ^ 64
     rest_small = omega (arith, small, div-le_self stops (2 ^ k))
 
-    lowest : (place < 64) × (bit_at rest place ≡ 1) × ((i : ℕ) → i < place → bit_at rest i ≡ 0)
+    lowest : (offset < 64) × (bit_at rest offset ≡ 1) × ((i : ℕ) → i < offset → bit_at rest i ≡ 0)
     lowest = bit_at-trailing_zeros w64 rest some rest_small
 
     bit : (i : ℕ) → bit_at rest i ≡ cond (get_or ms (k + i) false) 1 0
     bit i = ap (λ (n : ℕ). n % 2) (shr-shr stops k i) ∙ ap (λ (n : ℕ). bit_at n (k + i)) is ∙ bit_mask_l ms (k + i)
 
-    is_set : get_or ms (k + place) false ≡ true
-    is_set = one_true _ (sym (bit place) ∙ lowest.1)
+    is_set : get_or ms (k + offset) false ≡ true
+    is_set = one_true _ (sym (bit offset) ∙ lowest.1)
 
-    is_near : k + place < 64
-    is_near = elim (cases_lt (k + place) 64) [
+    is_near : k + offset < 64
+    is_near = elim (cases_lt (k + offset) 64) [
       | inl near ↦ near
-      | inr far ↦ let none : get_or ms (k + place) false ≡ false = get_or_past ms (k + place) false (omega (arith, long)) in absurd (false≢true (sym none ∙ is_set))
+      | inr far ↦ let none : get_or ms (k + offset) false ≡ false = get_or_past ms (k + offset) false (omega (arith, long)) in absurd (false≢true (sym none ∙ is_set))
     ]
 
-    stops_there : test (slice_index text (base + (k + place))) ≡ false
-    stops_there = not-true _ (sym (each (k + place) is_near) ∙ is_set)
+    stops_there : test (slice_index text (base + (k + offset))) ≡ false
+    stops_there = not-true _ (sym (each (k + offset) is_near) ∙ is_set)
 
-    passes_before : (i : ℕ) → i < place → test (slice_index text (base + (k + i))) ≡ true
+    passes_before : (i : ℕ) → i < offset → test (slice_index text (base + (k + i))) ≡ true
     passes_before i below = not-false _ (sym (each (k + i) (omega (arith, is_near))) ∙ zero_false _ (sym (bit i) ∙ lowest.2 i below))
 
-    runs : IsRunEnd test text (base + k) (base + (k + place))
+    runs : IsRunEnd test text (base + k) (base + (k + offset))
     runs = record {
       reaches = omega arith;
       within = omega (arith, is_near);

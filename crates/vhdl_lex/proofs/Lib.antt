@@ -1,6 +1,6 @@
--- The lemmas on the scanner: its tables, its pieces, and the steps of a cut.
+-- The lemmas on the scanner: its tables, its lexical elements, and the steps of a cut.
 pub mod Classes
-pub mod Marked
+pub mod Delimited
 pub mod WordTable
 pub mod WordRoles
 pub mod DelimiterRoles

@@ -1,11 +1,11 @@
--- Where the loops end, the longest piece ends.
+-- Where the loops end, the longest lexical element ends.
 use Rattle.std.proofs.Common.{◌≡◌, ℕ, ◌+◌, ◌<◌, ◌≤◌, Bool, true, false, not, List, [], ◌∷◌, length, slice_index, Option, Some, refl, sym, ap, subst, ⊎_elim, arith}
 use Rattle.std.proofs.str.Laws.{order}
 use Rattle.base.specs.declared.lexical.Token.{Token}
 use Rattle.base.specs.declared.lexical.TokenKind.TheVariants.{Word, Extended, Number, Str, Char, Tick, Symbol, High}
 use Rattle.vhdl_spec.specs.Tokens.{Row, byte_order_mark, blank, line_comment, block_comment, tool_directive, token, is_line_end, is_word_byte, is_number_byte, EachByte, IsLongest, row_at}
-use Rattle.vhdl_lex.specs.Ends.{IsRunEnd, IsCommentEnd, IsMarkedEnd}
-use Rattle.vhdl_lex.specs.Pieces.{Skips}
+use Rattle.vhdl_lex.specs.Ends.{IsRunEnd, IsCommentEnd, IsDelimitedEnd}
+use Rattle.vhdl_lex.specs.LexicalElements.{Skips}
 
 -- the bytes that pass a test, from an offset on, end here
 record Run (test : ℕ → Bool) (text : List ℕ) (at end : ℕ) : Type 0 where
@@ -18,7 +18,7 @@ run : (test : ℕ → Bool) (text : List ℕ) (at end : ℕ) → test (slice_ind
 run test text at end first is = record {
   some = omega (arith, is.reaches);
   within = is.within;
-  each = λ place from below. ⊎_elim (λ h. is.each place (omega arith) below) (λ h. let same : at ≡ place = omega arith in subst (λ (n : ℕ). test (slice_index text n) ≡ true) same first) (order at place);
+  each = λ offset from below. ⊎_elim (λ h. is.each offset (omega arith) below) (λ h. let same : at ≡ offset = omega arith in subst (λ (n : ℕ). test (slice_index text n) ≡ true) same first) (order at offset);
   longest = λ other within each. ⊎_elim (λ h. let passes : test (slice_index text end) ≡ true = each end (omega (arith, is.reaches)) h in let fails : test (slice_index text end) ≡ false = is.stops (omega arith) in cc) (λ h. h) (order end other);
 }
 
@@ -52,16 +52,16 @@ module _ (text : List ℕ) (at : ℕ) (reaches : at + 3 ≤ length text) where
   pub char_longest : IsLongest (token Char) text at (at + 3)
   char_longest = record { some = omega arith; within = omega arith; fits = refl; longest = λ other in_text is. omega arith }
 
-  pub mark_longest : IsLongest byte_order_mark text at (at + 3)
-  mark_longest = record { some = omega arith; within = omega arith; fits = refl; longest = λ other in_text is. omega arith }
+  pub delimiter_longest : IsLongest byte_order_mark text at (at + 3)
+  delimiter_longest = record { some = omega arith; within = omega arith; fits = refl; longest = λ other in_text is. omega arith }
 
 pub block_longest : (text : List ℕ) (at end : ℕ) → IsCommentEnd text at (Some end) → IsLongest block_comment text at end
 block_longest text at end is = record { some = omega (arith, is.1.up_to, is.1.after); within = is.0; fits = is.1; longest = λ other within fits. is.2 other fits }
 
-pub string_longest : (text : List ℕ) (at end : ℕ) → at < end → IsMarkedEnd 34 text at (Some end) → IsLongest (token Str) text at end
+pub string_longest : (text : List ℕ) (at end : ℕ) → at < end → IsDelimitedEnd 34 text at (Some end) → IsLongest (token Str) text at end
 string_longest text at end some is = record { some = some; within = is.0; fits = is.1; longest = λ other within fits. is.2 other fits }
 
-pub extended_longest : (text : List ℕ) (at end : ℕ) → at < end → IsMarkedEnd 92 text at (Some end) → IsLongest (token Extended) text at end
+pub extended_longest : (text : List ℕ) (at end : ℕ) → at < end → IsDelimitedEnd 92 text at (Some end) → IsLongest (token Extended) text at end
 extended_longest text at end some is = record { some = some; within = is.0; fits = is.1; longest = λ other within fits. is.2 other fits }
 
 -- one gap
@@ -74,16 +74,16 @@ IsGap tool_directive = Unit {0}
 IsGap (token kind) = ⊥
 
 gap : (row : Row) → IsGap row → (text : List ℕ) (last : Option Token) (at end : ℕ) → row_at text last at ≡ row → IsLongest row text at end → Skips text last at end
-gap byte_order_mark is text last at end first longest = record { pieces = record { row = byte_order_mark; start = at; end = end } ∷ []; leads = (record { starts = refl; first = sym first; longest = longest }, refl); tokens = refl; comments = refl; some = longest.some; within = longest.within }
-gap blank is text last at end first longest = record { pieces = record { row = blank; start = at; end = end } ∷ []; leads = (record { starts = refl; first = sym first; longest = longest }, refl); tokens = refl; comments = refl; some = longest.some; within = longest.within }
+gap byte_order_mark is text last at end first longest = record { lexical_elements = record { row = byte_order_mark; start = at; end = end } ∷ []; leads = (record { starts = refl; first = sym first; longest = longest }, refl); tokens = refl; comments = refl; some = longest.some; within = longest.within }
+gap blank is text last at end first longest = record { lexical_elements = record { row = blank; start = at; end = end } ∷ []; leads = (record { starts = refl; first = sym first; longest = longest }, refl); tokens = refl; comments = refl; some = longest.some; within = longest.within }
 gap line_comment is text last at end first longest = absurd is
-gap block_comment is text last at end first longest = record { pieces = record { row = block_comment; start = at; end = end } ∷ []; leads = (record { starts = refl; first = sym first; longest = longest }, refl); tokens = refl; comments = refl; some = longest.some; within = longest.within }
-gap tool_directive is text last at end first longest = record { pieces = record { row = tool_directive; start = at; end = end } ∷ []; leads = (record { starts = refl; first = sym first; longest = longest }, refl); tokens = refl; comments = refl; some = longest.some; within = longest.within }
+gap block_comment is text last at end first longest = record { lexical_elements = record { row = block_comment; start = at; end = end } ∷ []; leads = (record { starts = refl; first = sym first; longest = longest }, refl); tokens = refl; comments = refl; some = longest.some; within = longest.within }
+gap tool_directive is text last at end first longest = record { lexical_elements = record { row = tool_directive; start = at; end = end } ∷ []; leads = (record { starts = refl; first = sym first; longest = longest }, refl); tokens = refl; comments = refl; some = longest.some; within = longest.within }
 gap (token kind) is text last at end first longest = absurd is
 
 module _ (text : List ℕ) (last : Option Token) (at end : ℕ) where
-  pub mark_gap : row_at text last at ≡ byte_order_mark → IsLongest byte_order_mark text at end → Skips text last at end
-  mark_gap first longest = gap byte_order_mark tt text last at end first longest
+  pub delimiter_gap : row_at text last at ≡ byte_order_mark → IsLongest byte_order_mark text at end → Skips text last at end
+  delimiter_gap first longest = gap byte_order_mark tt text last at end first longest
 
   pub blank_gap : row_at text last at ≡ blank → IsLongest blank text at end → Skips text last at end
   blank_gap first longest = gap blank tt text last at end first longest

@@ -3,7 +3,7 @@ use Rattle.std.proofs.Common.{◌≡◌, ◌≢◌, ℕ, ◌<◌, ◌≤◌, ◌
 use Rattle.std.proofs.lemmas.Bool.Decides.{nat_tests}
 use Rattle.base.specs.declared.lexical.TokenKind.TheVariants.{Word, Extended, Number, Str, Char, Tick, Symbol, High}
 use Rattle.std.specs.Char.{is_ascii_alphabetic}
-use Rattle.vhdl_lex.specs.Pieces.{is_plain}
+use Rattle.vhdl_lex.specs.LexicalElements.{is_plain}
 use Rattle.vhdl_spec.specs.Tokens.{is_blank, byte_order_mark, blank, line_comment, block_comment, tool_directive, token, first_row}
 
 module _ (start tick : Bool) (a b c : ℕ) where
@@ -70,9 +70,9 @@ module _ (start tick : Bool) (a b c : ℕ) where
   unfolding first_row
   lone_row is third = grind (arith, nat_tests)
 
-  pub mark_row : start ≡ true → a ≡ 0xEF → b ≡ 0xBB → c ≡ 0xBF → first_row start tick a b c ≡ byte_order_mark
+  pub delimiter_row : start ≡ true → a ≡ 0xEF → b ≡ 0xBB → c ≡ 0xBF → first_row start tick a b c ≡ byte_order_mark
   unfolding first_row
-  mark_row at_start first second third = grind (arith, nat_tests)
+  delimiter_row at_start first second third = grind (arith, nat_tests)
 
   pub high_row : 128 ≤ a → start ≡ false → first_row start tick a b c ≡ token High
   unfolding first_row
@@ -90,14 +90,14 @@ module _ (start tick : Bool) (a b c : ℕ) where
   unfolding first_row
   third_high_row high third = grind (arith, nat_tests)
 
-  -- a delimiter, by where its byte lies among those of other pieces
+  -- a delimiter, by where its byte lies among those of other lexical elements
   pub low_symbol_row : a < 9 → first_row start tick a b c ≡ token Symbol
   unfolding first_row
   low_symbol_row high = grind (arith, nat_tests)
 
-  pub mark_symbol_row : 14 ≤ a → a < 47 → a ≢ 32 → a ≢ 34 → a ≢ 39 → a ≢ 45 → first_row start tick a b c ≡ token Symbol
+  pub delimiter_symbol_row : 14 ≤ a → a < 47 → a ≢ 32 → a ≢ 34 → a ≢ 39 → a ≢ 45 → first_row start tick a b c ≡ token Symbol
   unfolding first_row
-  mark_symbol_row low high h1 h2 h3 h4 = grind (arith, nat_tests)
+  delimiter_symbol_row low high h1 h2 h3 h4 = grind (arith, nat_tests)
 
   pub middle_symbol_row : 58 ≤ a → a < 65 → first_row start tick a b c ≡ token Symbol
   unfolding first_row

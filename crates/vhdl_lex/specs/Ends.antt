@@ -1,7 +1,7 @@
--- Where pieces of a text end.
+-- Where lexical elements of a text end.
 use Rattle.std.specs.Prelude.{◌≡◌, ℕ, ◌+◌, ◌-◌, ◌/◌, ◌^◌, ◌<◌, ◌≤◌, Bool, false, List, length, slice_index, Option, Some, None}
 use Rattle.std.specs.Int.{w64, trailing_zeros}
-use Rattle.vhdl_spec.specs.Tokens.{EachByte, IsBlockComment, IsMarked}
+use Rattle.vhdl_spec.specs.Tokens.{EachByte, IsBlockComment, IsDelimited}
 
 -- from an offset up to the end each byte passes the test, and no further
 pub record IsRunEnd (test : ℕ → Bool) (text : List ℕ) (start end : ℕ) : Type 0 where
@@ -15,12 +15,12 @@ abbrev pub IsCommentEnd : List ℕ → ℕ → Option ℕ → Type 0
 IsCommentEnd text at None = (end : ℕ) → IsBlockComment text at end → ⊥
 IsCommentEnd text at (Some end) = (end ≤ length text) × IsBlockComment text at end × ((other : ℕ) → IsBlockComment text at other → other ≤ end)
 
--- the furthest end of what opens with the mark at an offset, or none where it has none
-abbrev pub IsMarkedEnd : ℕ → List ℕ → ℕ → Option ℕ → Type 0
-IsMarkedEnd mark text at None = (end : ℕ) → IsMarked mark text at end → ⊥
-IsMarkedEnd mark text at (Some end) = (end ≤ length text) × IsMarked mark text at end × ((other : ℕ) → IsMarked mark text at other → other ≤ end)
+-- the furthest end of what opens with the delimiter at an offset, or none where it has none
+abbrev pub IsDelimitedEnd : ℕ → List ℕ → ℕ → Option ℕ → Type 0
+IsDelimitedEnd delimiter text at None = (end : ℕ) → IsDelimited delimiter text at end → ⊥
+IsDelimitedEnd delimiter text at (Some end) = (end ≤ length text) × IsDelimited delimiter text at end × ((other : ℕ) → IsDelimited delimiter text at other → other ≤ end)
 
--- the first place from one on whose bit is set, where the lowest of 64 bits is that of the place `base`
+-- the first offset from one on whose bit is set, where the lowest of 64 bits is that of the offset `base`
 pub record IsStopFrom (from base stops end : ℕ) : Type 0 where
   pub near : from < base + 64
   pub some : 0 < stops / 2 ^ (from - base)

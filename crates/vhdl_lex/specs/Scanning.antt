@@ -4,12 +4,12 @@ use Rattle.base.specs.declared.lexical.Tokens.{Tokens}
 use Rattle.base.specs.declared.lexical.LexFault.{LexFault}
 use Rattle.base.specs.declared.memory.OrMemory.{OrMemory}
 use Rattle.base.specs.declared.memory.OrMemory.TheVariants.{NoMemory, Fault}
-use Rattle.vhdl_spec.specs.Tokens.{Piece, AreOf}
+use Rattle.vhdl_spec.specs.Tokens.{LexicalElement, AreOf}
 
--- the tokens of these pieces, or out of memory
-abbrev pub GivesTokens : List Piece → Result Tokens (OrMemory LexFault) → Type 0
-GivesTokens pieces (Ok tokens) = AreOf pieces tokens
-GivesTokens pieces (Err answer) = answer ≡ NoMemory
+-- the tokens of these lexical elements, or out of memory
+abbrev pub GivesTokens : List LexicalElement → Result Tokens (OrMemory LexFault) → Type 0
+GivesTokens lexical_elements (Ok tokens) = AreOf lexical_elements tokens
+GivesTokens lexical_elements (Err answer) = answer ≡ NoMemory
 
 -- this lexical fault, or out of memory
 abbrev pub GivesFault : LexFault → Result Tokens (OrMemory LexFault) → Type 0

@@ -2,7 +2,7 @@
 
 ghost use Rattle.std.specs.Prelude.{◌≡◌};
 ghost use Rattle.vhdl_spec.specs.Tokens.{is_blank, is_line_end, is_word_byte, is_number_byte};
-ghost use Rattle.vhdl_lex.specs.Pieces.{is_plain};
+ghost use Rattle.vhdl_lex.specs.LexicalElements.{is_plain};
 
 const LINE_END: u8 = 1;
 

@@ -1,8 +1,8 @@
-//! Where pieces of a text end: one function a form, each with one loop.
+//! Where lexical elements of a text end: one function a form, each with one loop.
 
 ghost use Rattle.std.specs.Prelude.{◌≡◌, ◌+◌, ◌<◌, ◌≤◌, false, not, length};
 ghost use Rattle.vhdl_spec.specs.Tokens.{is_blank, is_line_end, is_word_byte, is_number_byte};
-ghost use Rattle.vhdl_lex.specs.Ends.{AreStops, IsRunEnd, IsCommentEnd, IsMarkedEnd};
+ghost use Rattle.vhdl_lex.specs.Ends.{AreStops, IsRunEnd, IsCommentEnd, IsDelimitedEnd};
 
 use crate::class::{is_blank, is_line_end, is_number_byte, is_word_byte};
 use crate::stops::stop_from;
@@ -105,19 +105,19 @@ pub fn comment_end(text: &[u8], at: usize) -> Option<usize>
     None
 }
 
-/// The furthest end of the string or extended identifier that opens at `at` with the mark.
+/// The furthest end of the string or extended identifier that opens at `at` with the delimiter.
 #[inline(always)]
-pub fn marked_end(text: &[u8], at: usize, mark: u8) -> Option<usize>
+pub fn end_after_delimiter(text: &[u8], at: usize, delimiter: u8) -> Option<usize>
     requires within { at < length text.now }
-    requires some { 0 < mark }
-    requires in_line { is_line_end mark ≡ false }
-    ensures { IsMarkedEnd mark text.now at result }
+    requires some { 0 < delimiter }
+    requires in_line { is_line_end delimiter ≡ false }
+    ensures { IsDelimitedEnd delimiter text.now at result }
 {
     let mut end = None;
     let mut close = at + 1;
     while close < text.len() && !is_line_end(text[close]) {
-        if text[close] == mark {
-            if close + 1 == text.len() || text[close + 1] != mark {
+        if text[close] == delimiter {
+            if close + 1 == text.len() || text[close + 1] != delimiter {
                 return Some(close + 1);
             }
             end = Some(close + 1);

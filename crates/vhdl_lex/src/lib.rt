@@ -3,7 +3,7 @@
 
 mod class;
 mod ends;
-mod piece;
+mod lexical_element;
 mod reserved;
 mod roles;
 mod scan;

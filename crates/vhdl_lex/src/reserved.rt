@@ -1,11 +1,11 @@
 //! The reserved words (IEEE Std 1076-2008, clause 15.10), looked up by a table without collisions.
 //!
-//! The three tables and the four factors in `place_of` were found by `bench/reserved.py`, which prints them again.
+//! The three tables and the four factors in `bucket_of` were found by `bench/reserved.py`, which prints them again.
 
 ghost use Rattle.std.specs.Prelude.{◌≡◌, ◌<◌, ◌↔◌, IsTrue, length, slice_index, slice_index_or, []};
 ghost use Rattle.std.specs.Char.{to_ascii_lowercase};
 ghost use Rattle.vhdl_spec.specs.Words.{is_reserved, lower_case, reserved_words};
-ghost use Rattle.vhdl_lex.specs.Places.{IsNumberOf, place_of};
+ghost use Rattle.vhdl_lex.specs.Buckets.{IsNumberOf, bucket_of};
 
 /// The letters of all reserved words, in order.
 static LETTERS: [u8; 642] =
@@ -21,7 +21,7 @@ static STARTS: [u16; 116] = [
     559, 568, 572, 582, 587, 592, 595, 603, 608, 613, 618, 622, 626, 631, 635, 639, 642,
 ];
 
-/// At the place of each reserved word its number, counted from 1, and 0 elsewhere.
+/// At the offset of each reserved word its number, counted from 1, and 0 elsewhere.
 static NUMBERS: [u8; 1024] = [
     0, 0, 0, 99, 0, 0, 0, 0, 0, 0, 0, 0, 0, 34, 0, 0, 0, 23, 0, 0, 0, 0, 0, 0, 0, 24, 0, 0, 0, 0,
     0, 0, 0, 0, 0, 115, 0, 0, 0, 0, 0, 0, 0, 100, 0, 0, 0, 0, 0, 0, 0, 0, 0, 55, 0, 0, 0, 0, 0, 0,
@@ -76,12 +76,12 @@ static LOWER: [u8; 256] = [
     245, 246, 247, 248, 249, 250, 251, 252, 253, 254, 255,
 ];
 
-/// The place of a word in the table, by its length and three of its letters without their case.
+/// The offset of a word in the table, by its length and three of its letters without their case.
 #[inline(always)]
-#[tactic(auto, unfolding(crate::specs::Places::place_of))]
-fn place_of(word: &[u8]) -> usize
+#[tactic(auto, unfolding(crate::specs::Buckets::bucket_of))]
+fn bucket_of(word: &[u8]) -> usize
     requires { 0 < length word.now }
-    ensures { result ≡ place_of word.now }
+    ensures { result ≡ bucket_of word.now }
 {
     let length = word.len();
     let first = (word[0] | 32) as usize;
@@ -109,18 +109,18 @@ fn reserved_word(number: usize) -> &'static [u8]
     &LETTERS[start..end]
 }
 
-/// The number of the one word that may be at a place, counted from 1, or 0 for none.
+/// The number of the one word that may be at an offset, counted from 1, or 0 for none.
 #[inline(always)]
-fn number_at(place: usize) -> usize
-    requires { place < 1024 }
-    ensures { result ≡ slice_index NUMBERS place }
+fn number_at(offset: usize) -> usize
+    requires { offset < 1024 }
+    ensures { result ≡ slice_index NUMBERS offset }
 {
-    NUMBERS[place] as usize
+    NUMBERS[offset] as usize
 }
 
 /// A byte, a letter in lower case.
 #[inline(always)]
-fn lowered(byte: u8) -> u8
+fn to_lower_case(byte: u8) -> u8
     ensures { result ≡ to_ascii_lowercase byte }
 {
     LOWER[byte as usize]
@@ -135,7 +135,7 @@ fn is_lowered(bytes: &[u8], letters: &[u8]) -> bool
         return false;
     }
     for i in 0..bytes.len() {
-        if lowered(bytes[i]) != letters[i] {
+        if to_lower_case(bytes[i]) != letters[i] {
             return false;
         }
     }
@@ -149,7 +149,7 @@ pub fn reserved_number(word: &[u8]) -> usize
     if word.is_empty() {
         return 0;
     }
-    let number = number_at(place_of(word));
+    let number = number_at(bucket_of(word));
     if number != 0 && is_lowered(word, reserved_word(number - 1)) {
         number
     } else {

@@ -3,7 +3,7 @@
 ghost use Rattle.std.specs.Prelude.{◌≡◌};
 ghost use Rattle.vhdl_spec.specs.Words.{lower_case};
 ghost use Rattle.vhdl_spec.specs.Units.{word_role, symbol_role, role_of};
-ghost use Rattle.vhdl_lex.specs.Pieces.{LiesIn};
+ghost use Rattle.vhdl_lex.specs.LexicalElements.{LiesIn};
 
 use crate::reserved::reserved_number;
 use base::{Role, Token, TokenKind};

@@ -2,14 +2,14 @@
 
 ghost use Rattle.std.specs.Prelude.{◌≡◌, ◌<◌, ◌≤◌, List, [], ◌∷◌, ◌++◌, length, IfOk, OnOk};
 ghost use Rattle.base.specs.declared.lexical.LexFault.{LexFault};
-ghost use Rattle.vhdl_spec.specs.Tokens.{Piece, IsCut, HasFault, Scans};
+ghost use Rattle.vhdl_spec.specs.Tokens.{LexicalElement, IsCut, HasFault, Scans};
 ghost use Rattle.vhdl_spec.specs.Units.{role_of, roles_of};
-ghost use Rattle.vhdl_lex.specs.Pieces.{LiesIn};
+ghost use Rattle.vhdl_lex.specs.LexicalElements.{LiesIn};
 ghost use Rattle.vhdl_lex.specs.Reading.{Read, ReadsOn};
 ghost use Rattle.vhdl_lex.specs.Scanning.{GivesTokens, GivesFault};
 
 use crate::ends::gap_end_by;
-use crate::piece::{Found, next_piece};
+use crate::lexical_element::{Found, next_lexical_element};
 use crate::roles::role_of;
 use crate::stops::{gap_stops, word_stops};
 use base::{Items, LexFault, NoMemory, OrMemory, Role, RoleList, Span, TEXT_LIMIT, Token, Tokens};
@@ -29,7 +29,7 @@ pub fn scan_with_roles(
     // Tokens are those of the cut, and a fault is one that the text has.
     ensures right { Scans text.now result }
     // Where there is a cut its tokens are given, unless memory runs out.
-    ensures cut { (pieces : List Piece) → IsCut text.now pieces → GivesTokens pieces result }
+    ensures cut { (lexical_elements : List LexicalElement) → IsCut text.now lexical_elements → GivesTokens lexical_elements result }
     // Where there is a fault it is given, unless memory runs out.
     ensures fault { (fault : LexFault) → HasFault text.now fault → GivesFault fault result }
     ensures roles { IfOk result (λ tokens. roles.new ≡ roles_of text.now tokens.list) }
@@ -50,7 +50,7 @@ fn push_role(text: &[u8], roles: &mut Vec<Role>, token: Token) -> Result<(), NoM
     Ok(())
 }
 
-/// Goes on with a cut for some bytes or, where a piece begins within them, to its end, and adds tokens and comments; and
+/// Goes on with a cut for some bytes or, where a lexical element begins within them, to its end, and adds tokens and comments; and
 /// the roles of the tokens.
 fn cut_on(
     text: &[u8],
@@ -74,7 +74,7 @@ fn cut_on(
         if at == text.len() {
             return Ok(at);
         }
-        at = match next_piece(text, list.as_slice(), at, from, words) {
+        at = match next_lexical_element(text, list.as_slice(), at, from, words) {
             Found::Gap(end) => end,
             Found::Comment(end) => {
                 comments.push(Span {
@@ -121,7 +121,11 @@ fn room_of(used: Tokens) -> (Vec<Token>, Vec<Span>)
 }
 
 /// The cut of a text, and the roles of its tokens.
-fn cut(text: &[u8], roles: &mut Vec<Role>, used: Tokens) -> Result<Tokens, OrMemory<LexFault>>
+fn cut_tokens(
+    text: &[u8],
+    roles: &mut Vec<Role>,
+    used: Tokens,
+) -> Result<Tokens, OrMemory<LexFault>>
     requires small { length text.now ≤ TEXT_LIMIT }
     requires none { roles.old.items ≡ [] }
     ensures right { Scans text.now result }
@@ -139,7 +143,7 @@ fn cut(text: &[u8], roles: &mut Vec<Role>, used: Tokens) -> Result<Tokens, OrMem
     })
 }
 
-/// The cut of a text with the roles of its tokens, which take the place of those that were there, in
+/// The cut of a text with the roles of its tokens, which take the offset of those that were there, in
 /// their memory where that has room.
 fn cut_with_roles(
     alloc: Global,
@@ -154,7 +158,7 @@ fn cut_with_roles(
     let mut list = replace(roles, RoleList::new(alloc)).into_vec();
     list.clear();
     list.reserve(text.len() / 4 + 1)?;
-    let tokens = cut(text, &mut list, used)?;
+    let tokens = cut_tokens(text, &mut list, used)?;
     *roles = Items::from_vec(list);
     Ok(tokens)
 }

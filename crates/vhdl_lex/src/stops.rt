@@ -9,7 +9,7 @@ use std::simd::prelude::*;
 
 const LANES: usize = 64;
 
-/// The first place from `from` on whose bit is set, where the first of 64 bits is that of the place `base`.
+/// The first offset from `from` on whose bit is set, where the first of 64 bits is that of the offset `base`.
 #[inline(always)]
 pub fn stop_from(from: usize, base: usize, stops: u64) -> Option<usize>
     requires ordered { base ≤ from }

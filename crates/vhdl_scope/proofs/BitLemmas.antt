@@ -26,10 +26,10 @@ joined row other all is number =
     rw (is at) (rw (bit_at_or (get_or row at 0) (get_or other at 0) bit) (either _ _ (bit_at-lt _ _) (bit_at-lt _ _)))
 
 in_word : (w k j : ℕ) → k < 64 → nat_eq (bit_at (bit_or w (1 * 2 ^ k % 18446744073709551616)) j) 1 ≡ (nat_eq j k || nat_eq (bit_at w j) 1)
-in_word w k j below = by_place (eqb_tells j k) where
-  by_place : ((nat_eq j k ≡ true) × (j ≡ k)) ⊎ ((nat_eq j k ≡ false) × (j ≢ k)) → nat_eq (bit_at (bit_or w (1 * 2 ^ k % 18446744073709551616)) j) 1 ≡ (nat_eq j k || nat_eq (bit_at w j) 1)
-  by_place (inl (told, same)) = rw (told, same, bit_at_set_same w64 w k below) refl
-  by_place (inr (told, differ)) = rw (told, bit_at_set_other w64 w k below j differ) refl
+in_word w k j below = by_index (eqb_tells j k) where
+  by_index : ((nat_eq j k ≡ true) × (j ≡ k)) ⊎ ((nat_eq j k ≡ false) × (j ≢ k)) → nat_eq (bit_at (bit_or w (1 * 2 ^ k % 18446744073709551616)) j) 1 ≡ (nat_eq j k || nat_eq (bit_at w j) 1)
+  by_index (inl (told, same)) = rw (told, same, bit_at_set_same w64 w k below) refl
+  by_index (inr (told, differ)) = rw (told, bit_at_set_other w64 w k below j differ) refl
 
 not_equal : (m n : ℕ) → m ≢ n → nat_eq m n ≡ false
 not_equal m n ne = grind (arith, nat_tests)

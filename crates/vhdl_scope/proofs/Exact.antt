@@ -14,14 +14,14 @@ use Rattle.vhdl_spec.specs.Visibility.{AreClosed, ScopeUnit, enough_steps, grown
 use Rattle.vhdl_spec.proofs.SomeTests.{and_both, and_cases, or_cases, or_first, or_second, some_of, Contains-first, Contains-later}
 use Rattle.vhdl_spec.proofs.Seeing.{closed}
 use Rattle.vhdl_scope.specs.declared.links.Link.{Link}
-use Rattle.vhdl_outlines.specs.declared.outlines.UnitScope.{UnitScope}
+use Rattle.vhdl_outline.specs.declared.outlines.UnitScope.{UnitScope}
 use Rattle.vhdl_scope.specs.declared.want.Group.{Group}
 use Rattle.vhdl_scope.specs.declared.want.Want.{Want}
 use Rattle.vhdl_scope.specs.Bits.{AreWithin, has, row_has}
 use Rattle.vhdl_scope.specs.Groups.{is_same_group}
-use Rattle.vhdl_scope.specs.Links.{AreTaken, links_at, place_row}
+use Rattle.vhdl_scope.specs.Links.{AreTaken, links_at, index_row}
 use Rattle.vhdl_scope.specs.Names.{group_number, implicit, name_of_number, number_of}
-use Rattle.vhdl_scope.specs.Wants.{architecture_want, architectures_of, context_want, gate_of, group_of, own_groups, primary_want, unit_wants, user_groups}
+use Rattle.vhdl_scope.specs.Wants.{architecture_want, architectures_of, context_want, needed_library, group_of, own_groups, primary_want, unit_wants, user_groups}
 use Rattle.vhdl_scope.specs.Scopes.{as_scope}
 use Rattle.vhdl_scope.specs.Graph.{IsRowOf}
 use Rattle.vhdl_scope.specs.Joins.{IsLinkFor, IsLinked, IsLinkedFor, IsOneOf, groups_at, link_for, no_user}
@@ -29,8 +29,8 @@ use Rattle.vhdl_scope.specs.Exact.{AreGrown}
 use Rattle.vhdl_scope.proofs.BitLemmas.{past}
 use Rattle.vhdl_scope.proofs.KeyLemmas.{numbered}
 use Rattle.vhdl_scope.proofs.NameLemmas.{Contains-map, same_bytes, same_group, told_group, told_same}
-use Rattle.vhdl_scope.proofs.ScopeLemmas.{as_long, at_place}
-use Rattle.vhdl_scope.proofs.OwnGroups.{Wants, a_context, a_primary, an_architecture, configured_wanted, context_wanted, gate_is, is_configured, is_context, is_primary, kept_own, own_kept, plain_want, primary_wanted, want_cases, want_of_configured, want_of_context, want_of_primary}
+use Rattle.vhdl_scope.proofs.ScopeLemmas.{as_long, at_index}
+use Rattle.vhdl_scope.proofs.OwnGroups.{Wants, a_context, a_primary, an_architecture, configured_wanted, context_wanted, library_number_is, is_configured, is_context, is_primary, kept_own, own_kept, plain_want, primary_wanted, want_cases, want_of_configured, want_of_context, want_of_primary}
 
 abbrev pub no_unit : ScopeUnit
 no_unit = no_user
@@ -98,7 +98,7 @@ module _ (units : List ScopeUnit) (names : List (List ℕ)) (rows : List (List �
   linked_at : (at : ℕ) → at < length units → IsLinked names is.groups (length units) (wants_at units at) (links_at is.of_units at)
   linked_at at within =
       subst (λ (n : ℕ). IsLinked names is.groups n (wants_at units at) (links_at is.of_units at)) scopes_long
-      (at_place (IsLinkedFor names is.groups (length (map as_scope units))) is.of_units units at [] no_unit is.links_are within)
+      (at_index (IsLinkedFor names is.groups (length (map as_scope units))) is.of_units units at [] no_unit is.links_are within)
 
   abbrev lists : List (List (List ℕ))
   lists = map own_list (map as_scope units) ++ replicate (length is.groups) (implicit ++ [])
@@ -106,20 +106,20 @@ module _ (units : List ScopeUnit) (names : List (List ℕ)) (rows : List (List �
   lists_long : length (map own_list (map as_scope units)) ≡ length units
   lists_long = length-map (map as_scope units) own_list ∙ scopes_long
 
-  row_unit : (at : ℕ) → at < length units → IsRowOf names is.words (place_row is.first at) (implicit ++ (unit_at units at).names)
+  row_unit : (at : ℕ) → at < length units → IsRowOf names is.words (index_row is.first at) (implicit ++ (unit_at units at).names)
   row_unit at within =
       let below : at < length (map as_scope units) = omega (arith, scopes_long) in
       let own : get_or lists at [] ≡ implicit ++ (unit_at units at).names =
       get_or-append (map own_list (map as_scope units)) (replicate (length is.groups) (implicit ++ [])) [] at (omega (arith, lists_long))
       ∙ (get_or-map own_list (map as_scope units) at (as_scope no_unit) [] below ∙ ap own_list (get_or-map as_scope units at no_unit (as_scope no_unit) within)) in
-      subst (IsRowOf names is.words (place_row is.first at)) own (at_place (IsRowOf names is.words) is.first lists at [] [] is.rows_are (omega (arith, lists_long, length-append (map own_list (map as_scope units)) (replicate (length is.groups) (implicit ++ [])))))
+      subst (IsRowOf names is.words (index_row is.first at)) own (at_index (IsRowOf names is.words) is.first lists at [] [] is.rows_are (omega (arith, lists_long, length-append (map own_list (map as_scope units)) (replicate (length is.groups) (implicit ++ [])))))
 
-  row_group : (group : ℕ) → group < length is.groups → IsRowOf names is.words (place_row is.first (length units + group)) (implicit ++ [])
+  row_group : (group : ℕ) → group < length is.groups → IsRowOf names is.words (index_row is.first (length units + group)) (implicit ++ [])
   row_group group within =
       let own : get_or lists (length units + group) [] ≡ implicit ++ [] =
       ap (λ (n : ℕ). get_or lists (n + group) []) (sym lists_long)
       ∙ (get_or-append-add (map own_list (map as_scope units)) (replicate (length is.groups) (implicit ++ [])) group [] ∙ get_or-replicate (length is.groups) group (implicit ++ []) [] within) in
-      subst (IsRowOf names is.words (place_row is.first (length units + group))) own (at_place (IsRowOf names is.words) is.first lists (length units + group) [] [] is.rows_are (omega (arith, lists_long, length-append (map own_list (map as_scope units)) (replicate (length is.groups) (implicit ++ [])), length-replicate (length is.groups) (implicit ++ []))))
+      subst (IsRowOf names is.words (index_row is.first (length units + group))) own (at_index (IsRowOf names is.words) is.first lists (length units + group) [] [] is.rows_are (omega (arith, lists_long, length-append (map own_list (map as_scope units)) (replicate (length is.groups) (implicit ++ [])), length-replicate (length is.groups) (implicit ++ []))))
 
   first_long : length is.first ≡ length units + length is.groups
   first_long = as_long (IsRowOf names is.words) is.first lists is.rows_are ∙ omega (arith, lists_long, length-append (map own_list (map as_scope units)) (replicate (length is.groups) (implicit ++ [])), length-replicate (length is.groups) (implicit ++ []))
@@ -186,10 +186,10 @@ module _ (units : List ScopeUnit) (names : List (List ℕ)) (rows : List (List �
       (any_by (λ (p : ScopeUnit). belongs_to user p && sees units p name) units v v_there (and_both (belongs_to user v) (sees units v name) owner seen))))
 
   by_context : (user v : ScopeUnit) (ref : Ref) (name : List ℕ) → Contains units user → Contains units v → Contains user.contexts ref → sees units user ref.library ≡ true → is_context_of user ref v ≡ true → sees units v name ≡ true → sees units user name ≡ true
-  by_context user v ref name there v_there ref_there gate context seen = by_name (is_implicit name) refl where
+  by_context user v ref name there v_there ref_there library_number context seen = by_name (is_implicit name) refl where
     some : list_any (λ (r : Ref). sees units user r.library && list_any (λ (c : ScopeUnit). is_context_of user r c && sees units c name) units) user.contexts ≡ true
     some = any_by (λ (r : Ref). sees units user r.library && list_any (λ (c : ScopeUnit). is_context_of user r c && sees units c name) units) user.contexts ref ref_there
-        (and_both (sees units user ref.library) (list_any (λ (c : ScopeUnit). is_context_of user ref c && sees units c name) units) gate
+        (and_both (sees units user ref.library) (list_any (λ (c : ScopeUnit). is_context_of user ref c && sees units c name) units) library_number
         (any_by (λ (c : ScopeUnit). is_context_of user ref c && sees units c name) units v v_there (and_both (is_context_of user ref v) (sees units v name) context seen)))
 
     by_name : (b : Bool) → is_implicit name ≡ b → sees units user name ≡ true
@@ -200,8 +200,8 @@ module _ (units : List ScopeUnit) (names : List (List ℕ)) (rows : List (List �
         (subst (λ (b : Bool). (not b && list_any (λ (r : Ref). sees units user r.library && list_any (λ (c : ScopeUnit). is_context_of user r c && sees units c name) units) user.contexts) ≡ true) (sym told) some))
 
   -- what a group that is wanted has is seen
-  from_group : (user : ScopeUnit) (want : Want) (name : List ℕ) → Contains units user → Contains (unit_wants user) want → sees units user (gate_of want) ≡ true → in_group want.group name ≡ true → sees units user name ≡ true
-  from_group user want name there wanted gate handed = by_handed (or_cases (is_implicit name) (list_any (λ v. is_in want.group v && sees units v name) units) handed) where
+  from_group : (user : ScopeUnit) (want : Want) (name : List ℕ) → Contains units user → Contains (unit_wants user) want → sees units user (needed_library want) ≡ true → in_group want.group name ≡ true → sees units user name ≡ true
+  from_group user want name there wanted library_number handed = by_handed (or_cases (is_implicit name) (list_any (λ v. is_in want.group v && sees units v name) units) handed) where
     in_own_groups : (v : ScopeUnit) → is_in want.group v ≡ true → Contains (own_groups v.library v.unit) want.group
     in_own_groups v told =
         let found = some_of (is_same_group want.group) (own_groups v.library v.unit) told in
@@ -213,7 +213,7 @@ module _ (units : List ScopeUnit) (names : List (List ℕ)) (rows : List (List �
     by_want v v_there in_it seen (an_architecture entity given entity_is given_is same) =
         by_owner user v name there v_there (or_second (is_primary_of user v) (is_configured_by user v) (is_configured user v entity given entity_is given_is (subst (λ (w : Want). Contains (own_groups v.library v.unit) w.group) same in_it))) seen
     by_want v v_there in_it seen (a_context ref ref_there same) =
-        by_context user v ref name there v_there ref_there (subst (λ (n : List ℕ). sees units user n ≡ true) (gate_is user.library ref) (subst (λ (w : Want). sees units user (gate_of w) ≡ true) (sym same) gate))
+        by_context user v ref name there v_there ref_there (subst (λ (n : List ℕ). sees units user n ≡ true) (library_number_is user.library ref) (subst (λ (w : Want). sees units user (needed_library w) ≡ true) (sym same) library_number))
         (is_context user ref v (subst (λ (w : Want). Contains (own_groups v.library v.unit) w.group) (sym same) in_it)) seen
 
     by_handed : (is_implicit name ≡ true) ⊎ (list_any (λ v. is_in want.group v && sees units v name) units ≡ true) → sees units user name ≡ true
@@ -224,22 +224,22 @@ module _ (units : List ScopeUnit) (names : List (List ℕ)) (rows : List (List �
         by_want found.0 found.1 (in_own_groups found.0 (parts.0)) (parts.1) (want_cases user want wanted)
 
   -- each link hands on what is seen
-  link_unit : (at : ℕ) → at < length units → (link : Link) → Contains (links_at is.of_units at) link → IsTrue (sets at link.gate) → (number : ℕ) → IsTrue (sets link.source number) → IsTrue (sets at number)
-  link_unit at within link there gate number handed = by_link (linked.only link there) where
+  link_unit : (at : ℕ) → at < length units → (link : Link) → Contains (links_at is.of_units at) link → IsTrue (sets at link.library_number) → (number : ℕ) → IsTrue (sets link.source number) → IsTrue (sets at number)
+  link_unit at within link there library_number number handed = by_link (linked.only link there) where
     linked : IsLinked names is.groups (length units) (wants_at units at) (links_at is.of_units at)
     linked = linked_at at within
 
     by_link : Contains [] link ⊎ IsLinkFor names is.groups (length units) (wants_at units at) link → IsTrue (sets at number)
     by_link (inl none) = absurd (omega (arith, none.1))
     by_link (inr for) =
-        let gate_is : link.gate ≡ number_of names (gate_of for.want) = ap (λ (l : Link). l.gate) for.is in
+        let library_number_is : link.library_number ≡ number_of names (needed_library for.want) = ap (λ (l : Link). l.library_number) for.is in
         let source_is : link.source ≡ length units + group_number is.groups for.want.group = ap (λ (l : Link). l.source) for.is in
-        let name_is : name_of_number names link.gate ≡ (gate_of for.want) = ap (name_of_number names) gate_is ∙ (numbered bytes_eq same_bytes told_same names (gate_of for.want) [] for.there.gate).1 in
+        let name_is : name_of_number names link.library_number ≡ (needed_library for.want) = ap (name_of_number names) library_number_is ∙ (numbered bytes_eq same_bytes told_same names (needed_library for.want) [] for.there.library_number).1 in
         let group_is : group_at (group_number is.groups for.want.group) ≡ for.want.group = (numbered is_same_group same_group told_group is.groups for.want.group (group_of false [] []) for.there.group).1 in
-        let open_gate : sees units (unit_at units at) (gate_of for.want) ≡ true = subst (λ (n : List ℕ). sees units (unit_at units at) n ≡ true) name_is (sym (set_unit at link.gate within) ∙ gate) in
+        let open_library_number : sees units (unit_at units at) (needed_library for.want) ≡ true = subst (λ (n : List ℕ). sees units (unit_at units at) n ≡ true) name_is (sym (set_unit at link.library_number within) ∙ library_number) in
         let given : in_group for.want.group (name_of_number names number) ≡ true =
         subst (λ (g : Group). in_group g (name_of_number names number) ≡ true) group_is (sym (set_group (group_number is.groups for.want.group) number) ∙ subst (λ (n : ℕ). sets n number ≡ true) source_is handed) in
-        set_unit at number within ∙ from_group (unit_at units at) for.want (name_of_number names number) (unit_there at within) for.wanted open_gate given
+        set_unit at number within ∙ from_group (unit_at units at) for.want (name_of_number names number) (unit_there at within) for.wanted open_library_number given
 
   link_group : (group : ℕ) (link : Link) → Contains (links_at is.of_groups group) link → (number : ℕ) → IsTrue (sets link.source number) → IsTrue (sets (length units + group) number)
   link_group group link there number handed =
@@ -259,34 +259,34 @@ module _ (units : List ScopeUnit) (names : List (List ℕ)) (rows : List (List �
             set_group group number ∙ subst (λ (g : Group). in_group g (name_of_number names number) ≡ true) (sym group_is) all
 
   sets_taken : AreTaken links sets
-  sets_taken at link there gate number handed = by_place (cases_lt at (length units)) where
-    by_place : (at < length units) ⊎ (length units ≤ at) → IsTrue (sets at number)
-    by_place (inl within) = link_unit at within link (subst (λ (some : List Link). Contains some link) (unit_links_at at within) there) gate number handed
-    by_place (inr past_end) =
+  sets_taken at link there library_number number handed = by_index (cases_lt at (length units)) where
+    by_index : (at < length units) ⊎ (length units ≤ at) → IsTrue (sets at number)
+    by_index (inl within) = link_unit at within link (subst (λ (some : List Link). Contains some link) (unit_links_at at within) there) library_number number handed
+    by_index (inr past_end) =
         let same : at ≡ length units + (at - length units) = omega arith in
         subst (λ (n : ℕ). IsTrue (sets n number)) (sym same)
         (link_group (at - length units) link (subst (λ (some : List Link). Contains some link) (ap (links_at links) same ∙ group_links_at (at - length units)) there) number handed)
 
   sets_within : AreWithin (has is.first) sets
-  sets_within at number told = by_place (cases_lt at (length units)) where
+  sets_within at number told = by_index (cases_lt at (length units)) where
     by_group : (cases : (at - length units < length is.groups) ⊎ (length is.groups ≤ at - length units)) → length units ≤ at → IsTrue (sets at number)
     by_group (inl within) past_end =
         let same : at ≡ length units + (at - length units) = omega arith in
         let row = row_group (at - length units) within in
-        let without : is_implicit (name_of_number names number) ≡ true = implicit_of (name_of_number names number) (row.only number (subst (λ (n : ℕ). row_has (place_row is.first n) number ≡ true) same told)) in
+        let without : is_implicit (name_of_number names number) ≡ true = implicit_of (name_of_number names number) (row.only number (subst (λ (n : ℕ). row_has (index_row is.first n) number ≡ true) same told)) in
         subst (λ (n : ℕ). IsTrue (sets n number)) (sym same)
         (set_group (at - length units) number ∙ or_first (is_implicit (name_of_number names number)) (list_any (λ v. is_in (group_at (at - length units)) v && sees units v (name_of_number names number)) units) without)
     by_group (inr past_groups) past_end =
-        let none : place_row is.first at ≡ [] = get_or_past is.first at [] (omega (arith, first_long)) in
+        let none : index_row is.first at ≡ [] = get_or_past is.first at [] (omega (arith, first_long)) in
         let empty : row_has [] number ≡ false = past [] number (omega arith) in
         let never : true ≡ false = sym told ∙ (ap (λ (row : List ℕ). row_has row number) none ∙ empty) in
         let impossible : ⊥ = cc in absurd impossible
 
-    by_place : (at < length units) ⊎ (length units ≤ at) → IsTrue (sets at number)
-    by_place (inl within) =
+    by_index : (at < length units) ⊎ (length units ≤ at) → IsTrue (sets at number)
+    by_index (inl within) =
         let row = row_unit at within in
         set_unit at number within ∙ own_seen (unit_at units at) (name_of_number names number) (unit_there at within) (own_of (unit_at units at) (name_of_number names number) (row.only number told))
-    by_place (inr past_end) = by_group (cases_lt (at - length units) (length is.groups)) past_end
+    by_index (inr past_end) = by_group (cases_lt (at - length units) (length is.groups)) past_end
 
   -- what a row has is seen
   pub only_seen : (at : ℕ) → at < length units → (number : ℕ) → has rows at number ≡ true → sees units (get_or units at no_unit) (name_of_number names number) ≡ true
@@ -299,25 +299,25 @@ module _ (units : List ScopeUnit) (names : List (List ℕ)) (rows : List (List �
       (own_named (unit_at units at) name (unit_there at within) own, is.spread.larger at (number_of names name) ((row_unit at within).put name own))
 
   -- a row takes what the row of a unit has that it wants
-  through : (at : ℕ) → at < length units → (from : ℕ) → from < length units → (want : Want) → Contains (wants_at units at) want → Contains (own_groups (unit_at units from).library (unit_at units from).unit) want.group → Contains names (gate_of want) × (has rows at (number_of names (gate_of want)) ≡ true) → (number : ℕ) → has rows from number ≡ true → has rows at number ≡ true
-  through at within from from_within want wanted owned gate number told =
+  through : (at : ℕ) → at < length units → (from : ℕ) → from < length units → (want : Want) → Contains (wants_at units at) want → Contains (own_groups (unit_at units from).library (unit_at units from).unit) want.group → Contains names (needed_library want) × (has rows at (number_of names (needed_library want)) ≡ true) → (number : ℕ) → has rows from number ≡ true → has rows at number ≡ true
+  through at within from from_within want wanted owned library_number number told =
       let kept : Contains (user_groups is.keeps (unit_at units from)) want.group = own_kept is.keeps (unit_at units from) want.group owned (λ without. plain_want (unit_at units at) want (is.enough without (unit_at units at) (unit_there at within)) (want_cases (unit_at units at) want wanted)) in
       let group_known : Contains is.groups want.group = is.groups_are.added want.group (in_parts (user_groups is.keeps) units (unit_at units from) want.group (unit_there from from_within) kept) in
       let group : ℕ = group_number is.groups want.group in
       let group_within : group < length is.groups = (numbered is_same_group same_group told_group is.groups want.group (group_of false [] []) group_known).0 in
-      let member : Contains (links_at is.of_groups group) (record { gate = number_of names work; source = from }) =
+      let member : Contains (links_at is.of_groups group) (record { library_number = number_of names work; source = from }) =
       is.members_are.joined from from_within want.group kept group_known in
-      let in_links : Contains (links_at links (length units + group)) (record { gate = number_of names work; source = from }) = subst (λ (some : List Link). Contains some (record { gate = number_of names work; source = from })) (sym (group_links_at group)) member in
-      let group_gate : has rows (length units + group) (number_of names work) ≡ true = is.spread.larger (length units + group) (number_of names work) ((row_group group group_within).put work (Contains-first work (codes "std" ∷ []))) in
-      let in_group_row : has rows (length units + group) number ≡ true = is.taken (length units + group) (record { gate = number_of names work; source = from }) in_links group_gate number told in
+      let in_links : Contains (links_at links (length units + group)) (record { library_number = number_of names work; source = from }) = subst (λ (some : List Link). Contains some (record { library_number = number_of names work; source = from })) (sym (group_links_at group)) member in
+      let group_library_number : has rows (length units + group) (number_of names work) ≡ true = is.spread.larger (length units + group) (number_of names work) ((row_group group group_within).put work (Contains-first work (codes "std" ∷ []))) in
+      let in_group_row : has rows (length units + group) number ≡ true = is.taken (length units + group) (record { library_number = number_of names work; source = from }) in_links group_library_number number told in
       let linked = linked_at at within in
-      let wanted_link : Contains (links_at is.of_units at) (link_for names is.groups (length units) want) = linked.linked want wanted (record { gate = gate.0; group = group_known }) in
+      let wanted_link : Contains (links_at is.of_units at) (link_for names is.groups (length units) want) = linked.linked want wanted (record { library_number = library_number.0; group = group_known }) in
       let in_unit : Contains (links_at links at) (link_for names is.groups (length units) want) = subst (λ (some : List Link). Contains some (link_for names is.groups (length units) want)) (sym (unit_links_at at within)) wanted_link in
-      is.taken at (link_for names is.groups (length units) want) in_unit (gate.1) number in_group_row
+      is.taken at (link_for names is.groups (length units) want) in_unit (library_number.1) number in_group_row
 
   -- where a unit of the list is
-  place_of : (v : ScopeUnit) → Contains units v → (at : ℕ) × (at < length units) × (get_or units at no_unit ≡ v)
-  place_of v (k, within, same) = (k, within, get_or_default units k no_unit v within ∙ same)
+  index_of : (v : ScopeUnit) → Contains units v → (at : ℕ) × (at < length units) × (get_or units at no_unit ≡ v)
+  index_of v (k, within, same) = (k, within, get_or_default units k no_unit v within ∙ same)
 
   abbrev HasSeen : ℕ → Type 0
   HasSeen steps = (at : ℕ) → at < length units → (name : List ℕ) → seen_after units steps (get_or units at no_unit) name ≡ true → Contains names name × (has rows at (number_of names name) ≡ true)
@@ -325,13 +325,13 @@ module _ (units : List ScopeUnit) (names : List (List ℕ)) (rows : List (List �
   -- what another unit has reaches a unit that wants a group of it in its own library
   from_owner : (steps : ℕ) → HasSeen steps → (at : ℕ) → at < length units → (name : List ℕ) → (v : ScopeUnit) → Contains units v → seen_after units steps v name ≡ true → (want : Want) → want.own ≡ true → Contains (wants_at units at) want → Contains (own_groups v.library v.unit) want.group → Contains names name × (has rows at (number_of names name) ≡ true)
   from_owner steps before at within name v there told want own wanted owned =
-      let place = place_of v there in
-      let seen = before place.0 (place.1) name (subst (λ (u : ScopeUnit). seen_after units steps u name ≡ true) (sym place.2) told) in
-      let gate : gate_of want ≡ work = ap (λ (b : Bool). if b then work else want.group.library) own in (
+      let row_index = index_of v there in
+      let seen = before row_index.0 (row_index.1) name (subst (λ (u : ScopeUnit). seen_after units steps u name ≡ true) (sym row_index.2) told) in
+      let library_number : needed_library want ≡ work = ap (λ (b : Bool). if b then work else want.group.library) own in (
         seen.0,
-        through at within place.0 (place.1) want wanted
-            (subst (λ (u : ScopeUnit). Contains (own_groups u.library u.unit) want.group) (sym place.2) owned)
-            (subst (λ (n : List ℕ). Contains names n × (has rows at (number_of names n) ≡ true)) (sym gate) (in_first at within work (Contains-first work (codes "std" ∷ (unit_at units at).names))))
+        through at within row_index.0 (row_index.1) want wanted
+            (subst (λ (u : ScopeUnit). Contains (own_groups u.library u.unit) want.group) (sym row_index.2) owned)
+            (subst (λ (n : List ℕ). Contains names n × (has rows at (number_of names n) ≡ true)) (sym library_number) (in_first at within work (Contains-first work (codes "std" ∷ (unit_at units at).names))))
             (number_of names name) (seen.1),
       )
 
@@ -361,14 +361,14 @@ module _ (units : List ScopeUnit) (names : List (List ℕ)) (rows : List (List �
       let open_parts = and_cases (seen_after units steps (unit_at units at) ref.0.library) (list_any (λ (c : ScopeUnit). is_context_of (unit_at units at) ref.0 c && seen_after units steps c name) units) ref.2 in
       let found = some_of (λ (c : ScopeUnit). is_context_of (unit_at units at) ref.0 c && seen_after units steps c name) units (open_parts.1) in
       let parts = and_cases (is_context_of (unit_at units at) ref.0 found.0) (seen_after units steps found.0 name) found.2 in
-      let place = place_of found.0 found.1 in
-      let gate = before at within ref.0.library (open_parts.0) in
-      let seen = before place.0 (place.1) name (subst (λ (v : ScopeUnit). seen_after units steps v name ≡ true) (sym place.2) (parts.1)) in (
+      let row_index = index_of found.0 found.1 in
+      let library_number = before at within ref.0.library (open_parts.0) in
+      let seen = before row_index.0 (row_index.1) name (subst (λ (v : ScopeUnit). seen_after units steps v name ≡ true) (sym row_index.2) (parts.1)) in (
         seen.0,
-        through at within place.0 (place.1) (context_want (unit_at units at).library ref.0)
+        through at within row_index.0 (row_index.1) (context_want (unit_at units at).library ref.0)
             (want_of_context (unit_at units at) ref.0 ref.1)
-            (subst (λ (v : ScopeUnit). Contains (own_groups v.library v.unit) (context_want (unit_at units at).library ref.0).group) (sym place.2) (context_wanted (unit_at units at) ref.0 found.0 (parts.0)))
-            (subst (λ (n : List ℕ). Contains names n × (has rows at (number_of names n) ≡ true)) (sym (gate_is (unit_at units at).library ref.0)) gate)
+            (subst (λ (v : ScopeUnit). Contains (own_groups v.library v.unit) (context_want (unit_at units at).library ref.0).group) (sym row_index.2) (context_wanted (unit_at units at) ref.0 found.0 (parts.0)))
+            (subst (λ (n : List ℕ). Contains names n × (has rows at (number_of names n) ≡ true)) (sym (library_number_is (unit_at units at).library ref.0)) library_number)
             (number_of names name) (seen.1),
       )
 

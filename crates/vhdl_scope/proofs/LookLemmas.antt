@@ -21,8 +21,8 @@ pub in_either : (a b c : Bool) → a ≡ (b || c) → a ≡ true → (b ≡ true
 in_either a true c is told = inl refl
 in_either a false c is told = inr (sym is ∙ told)
 
--- a row that took what one link hands on, since it has the link's gate
-module _ (link : Link) (rows : List (List ℕ)) (old new : List ℕ) (grown : Bool) (gate : row_has old link.gate ≡ true) (bits : (number : ℕ) → row_has new number ≡ (row_has old number || has rows link.source number)) where
+-- a row that took what one link hands on, since it has the link's library number
+module _ (link : Link) (rows : List (List ℕ)) (old new : List ℕ) (grown : Bool) (library_number : row_has old link.library_number ≡ true) (bits : (number : ℕ) → row_has new number ≡ (row_has old number || has rows link.source number)) where
   larger_by : IsPartOf (row_has old) (row_has new)
   larger_by number told = left_in _ _ _ (bits number) told
 
@@ -30,10 +30,10 @@ module _ (link : Link) (rows : List (List ℕ)) (old new : List ℕ) (grown : Bo
   sound_by sets own around takes within number told = by_row (in_either _ _ _ (bits number) told) where
     by_row : (row_has old number ≡ true) ⊎ (has rows link.source number ≡ true) → IsTrue (own number)
     by_row (inl before) = within number before
-    by_row (inr handed) = takes link (zero, omega arith, refl) (within link.gate gate) number (around link.source number handed)
+    by_row (inr handed) = takes link (zero, omega arith, refl) (within link.library_number library_number) number (around link.source number handed)
 
   taken_by : new ≡ old → TakesAll (link ∷ []) (has rows) (row_has old)
-  taken_by same other there gate_told number handed =
+  taken_by same other there library_number_told number handed =
       let from : has rows link.source number ≡ true = subst (λ (l : Link). has rows l.source number ≡ true) (sym (one_of link other there)) handed in
       subst (λ (row : List ℕ). row_has row number ≡ true) same (right_in _ _ _ (bits number) from)
 

@@ -15,7 +15,7 @@ use Rattle.std.proofs.lemmas.List.{length_push}
 use Rattle.std.proofs.lemmas.List.Folds.{position_or_len_push}
 use Rattle.std.proofs.lemmas.List.Sums.{prefix_len-le-length}
 use Rattle.std.proofs.lemmas.List.Elements.{Contains-append_left, Contains-append_right}
-use Rattle.base_key_index.proofs.Places.{placed_nowhere}
+use Rattle.base_collections.proofs.Buckets.{placed_nowhere}
 use Rattle.vhdl_spec.proofs.SomeTests.{Contains-first, Contains-later}
 use Rattle.vhdl_scope.specs.declared.want.Group.{Group}
 use Rattle.vhdl_scope.specs.Groups.{is_same_group}
@@ -69,9 +69,9 @@ put_at old new key number updates name = by_same (bytes_eq key.items name) refl 
 bytes_decide : (a b : List ℕ) → Decides (bytes_eq a b) (a ≡ b)
 bytes_decide a b = bytes_eq-Decides a b
 
--- the place of a text among names, one of which is new
-place_push : (names : List (List ℕ)) (last name : List ℕ) → ¬ Contains names last → position (bytes_eq name) (names ++ last ∷ []) ≡ cond (bytes_eq last name) (Some (length names)) (position (bytes_eq name) names)
-place_push names last name new = by_same (bytes_eq last name) refl where
+-- the index of a text among names, one of which is new
+index_push : (names : List (List ℕ)) (last name : List ℕ) → ¬ Contains names last → position (bytes_eq name) (names ++ last ∷ []) ≡ cond (bytes_eq last name) (Some (length names)) (position (bytes_eq name) names)
+index_push names last name new = by_same (bytes_eq last name) refl where
   by_same : (b : Bool) → bytes_eq last name ≡ b → position (bytes_eq name) (names ++ last ∷ []) ≡ cond b (Some (length names)) (position (bytes_eq name) names)
   by_same true told =
       let here : bytes_eq name last ≡ true = nat_list_eq_equiv.symm name last ∙ told in
@@ -90,7 +90,7 @@ place_push names last name new = by_same (bytes_eq last name) refl where
 pub found_push : (find now : List ℕ → Option ℕ) (names : List (List ℕ)) (last : List ℕ) → ¬ Contains names last → AreFound find names
     → ((name : List ℕ) → now name ≡ cond (bytes_eq last name) (Some (length names)) (find name)) → AreFound now (names ++ last ∷ [])
 found_push find now names last new found after name =
-    after name ∙ (ap (λ (o : Option ℕ). cond (bytes_eq last name) (Some (length names)) o) (found name) ∙ sym (place_push names last name new))
+    after name ∙ (ap (λ (o : Option ℕ). cond (bytes_eq last name) (Some (length names)) o) (found name) ∙ sym (index_push names last name new))
 
 pub known_already : (names : List (List ℕ)) (name : List ℕ) (number : ℕ) → number ≡ number_of names name → number < length names → HasAll (name ∷ []) names names
 known_already names name number is within = record {

@@ -12,7 +12,7 @@ use Rattle.vhdl_spec.specs.Visibility.{ScopeUnit, configured_name, is_architectu
 use Rattle.vhdl_spec.proofs.SomeTests.{and_both, and_cases, Contains-first, Contains-later}
 use Rattle.vhdl_scope.specs.declared.want.Group.{Group}
 use Rattle.vhdl_scope.specs.declared.want.Want.{Want}
-use Rattle.vhdl_scope.specs.Wants.{architecture_want, architectures_of, configured_wants, context_want, gate_of, group_of, kept_groups, own_groups, primary_want, primary_wants, unit_wants}
+use Rattle.vhdl_scope.specs.Wants.{architecture_want, architectures_of, configured_wants, context_want, needed_library, group_of, kept_groups, own_groups, primary_want, primary_wants, unit_wants}
 use Rattle.vhdl_scope.proofs.LookLemmas.{one_of}
 use Rattle.vhdl_scope.proofs.NameLemmas.{Contains-map, same_bytes, told_same}
 
@@ -173,13 +173,13 @@ context_wanted user ref v told =
     subst (λ (n : List ℕ). Contains (own_groups v.library v.unit) (group_of true (resolved user ref.library) n)) (same_bytes v.unit.name ref.name (parts.1))
     (subst (λ (l : List ℕ). Contains (own_groups v.library v.unit) (group_of true l v.unit.name)) (same_bytes v.library (resolved user ref.library) (firsts.1)) (context_there v (firsts.0)))
 
-gate_by : (own : Bool) (library named : List ℕ) → (own ≡ true → named ≡ work) → (if own then work else (if own then library else named)) ≡ named
-gate_by true library named is = sym (is refl)
-gate_by false library named is = refl
+library_number_by : (own : Bool) (library named : List ℕ) → (own ≡ true → named ≡ work) → (if own then work else (if own then library else named)) ≡ named
+library_number_by true library named is = sym (is refl)
+library_number_by false library named is = refl
 
 -- what a reference wants is there where the library that it names is seen
-pub gate_is : (library : List ℕ) (ref : Ref) → gate_of (context_want library ref) ≡ ref.library
-gate_is library ref = gate_by (bytes_eq ref.library work) library ref.library (same_bytes ref.library work)
+pub library_number_is : (library : List ℕ) (ref : Ref) → needed_library (context_want library ref) ≡ ref.library
+library_number_is library ref = library_number_by (bytes_eq ref.library work) library ref.library (same_bytes ref.library work)
 
 -- what a unit wants of others, by kind
 abbrev primary_side : ScopeUnit → List Want

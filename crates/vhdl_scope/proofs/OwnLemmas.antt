@@ -61,10 +61,10 @@ put_both names first next old mid new one two = record {
 
 pub nothing : (words number : ℕ) → row_has (replicate words 0) number ≡ false
 unfolding row_has
-nothing words number = by_place (cases_lt (number / 64) words) where
-  by_place : (number / 64 < words) ⊎ (words ≤ number / 64) → nat_eq (bit_at (get_or (replicate words 0) (number / 64) 0) (number % 64)) 1 ≡ false
-  by_place (inl within) = rw (get_or-replicate {A = ℕ} words (number / 64) 0 0 within) (rw (bit_at-zero (number % 64)) refl)
-  by_place (inr past) = let far : length (replicate {A = ℕ} words 0) ≤ number / 64 = omega (arith, length-replicate {A = ℕ} words 0) in rw (get_or_past (replicate words 0) (number / 64) 0 far) (rw (bit_at-zero (number % 64)) refl)
+nothing words number = by_index (cases_lt (number / 64) words) where
+  by_index : (number / 64 < words) ⊎ (words ≤ number / 64) → nat_eq (bit_at (get_or (replicate words 0) (number / 64) 0) (number % 64)) 1 ≡ false
+  by_index (inl within) = rw (get_or-replicate {A = ℕ} words (number / 64) 0 0 within) (rw (bit_at-zero (number % 64)) refl)
+  by_index (inr past) = let far : length (replicate {A = ℕ} words 0) ≤ number / 64 = omega (arith, length-replicate {A = ℕ} words 0) in rw (get_or_past (replicate words 0) (number / 64) 0 far) (rw (bit_at-zero (number % 64)) refl)
 
 -- a row that began with nothing
 pub row_is : (names some : List (List ℕ)) (words : ℕ) (row : List ℕ) → HasPut names some (replicate words 0) row → IsRowOf names words row some

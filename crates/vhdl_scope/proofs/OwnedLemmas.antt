@@ -67,7 +67,7 @@ all_one groups group = by_any (list_any (is_same_group group) groups) refl where
 
 -- a group keeps the number that it has or gets
 pub same_number : (groups : List Group) (group : Group) → group_number (with_group groups group) group ≡ group_number groups group
-same_number groups group = by_place (cases_lt (group_number groups group) (length groups)) where
+same_number groups group = by_index (cases_lt (group_number groups group) (length groups)) where
   most : group_number groups group ≤ length groups
   most = prefix_len-le-length (λ (other : Group). not (is_same_group group other)) groups
 
@@ -80,9 +80,9 @@ same_number groups group = by_place (cases_lt (group_number groups group) (lengt
       ∙ (ap (λ (b : Bool). cond b (length groups + cond (is_same_group group group) 0 1) (group_number groups group)) (eq-eqb (group_number groups group) (length groups) is)
       ∙ (ap (λ (b : Bool). length groups + cond b 0 1) (told_group group group refl) ∙ none))
 
-  by_place : (group_number groups group < length groups) ⊎ (length groups ≤ group_number groups group) → group_number (with_group groups group) group ≡ group_number groups group
-  by_place (inl within) = (grown_one groups group).same group within
-  by_place (inr past) = at_end past (list_any (is_same_group group) groups)
+  by_index : (group_number groups group < length groups) ⊎ (length groups ≤ group_number groups group) → group_number (with_group groups group) group ≡ group_number groups group
+  by_index (inl within) = (grown_one groups group).same group within
+  by_index (inr past) = at_end past (list_any (is_same_group group) groups)
 
 pub number_within : (old new : List Group) (group : Group) (number : ℕ) → HasAll (group ∷ []) old new → number ≡ group_number new group → number < length new
 number_within old new group number all is =

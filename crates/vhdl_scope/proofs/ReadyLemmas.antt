@@ -9,10 +9,10 @@ use Rattle.base.specs.declared.project.ProjectFile.{ProjectFile}
 use Rattle.vhdl_spec.specs.Visibility.{ScopeUnit, scope_units}
 use Rattle.vhdl_scope.specs.declared.groups.Owned.{Owned}
 use Rattle.vhdl_scope.specs.declared.links.Link.{Link}
-use Rattle.vhdl_outlines.specs.declared.outlines.FileOutline.{FileOutline}
-use Rattle.vhdl_outlines.specs.declared.outlines.UnitScope.{UnitScope}
-use Rattle.vhdl_outlines.specs.Outlines.{FilesAreOf, file_scopes}
-use Rattle.vhdl_outlines.proofs.OutlineLemmas.{scopes_kept}
+use Rattle.vhdl_outline.specs.declared.outlines.FileOutline.{FileOutline}
+use Rattle.vhdl_outline.specs.declared.outlines.UnitScope.{UnitScope}
+use Rattle.vhdl_outline.specs.Outlines.{FilesAreOf, file_scopes}
+use Rattle.vhdl_outline.proofs.OutlineLemmas.{scopes_kept}
 use Rattle.vhdl_scope.specs.declared.want.Group.{Group}
 use Rattle.vhdl_scope.specs.Groups.{is_same_group}
 use Rattle.vhdl_scope.specs.Links.{AreBelow, AreEven, links_at}
@@ -25,7 +25,7 @@ use Rattle.vhdl_scope.specs.Scopes.{as_scope}
 use Rattle.vhdl_scope.proofs.Exact.{in_parts, no_unit}
 use Rattle.vhdl_scope.proofs.KeyLemmas.{numbered}
 use Rattle.vhdl_scope.proofs.NameLemmas.{same_group, told_group}
-use Rattle.vhdl_scope.proofs.ScopeLemmas.{as_long, at_place, scopes_are}
+use Rattle.vhdl_scope.proofs.ScopeLemmas.{as_long, at_index, scopes_are}
 
 -- the names of each unit have numbers
 pub names_known : (files : List FileOutline) (names : List (List ℕ)) → HasAll (implicit ++ flat_map (λ unit. unit.names) (file_scopes files)) [] names → All (λ file. All (λ unit. AreNamed names unit.names) file.scopes) files
@@ -49,7 +49,7 @@ linked_each keeps files texts scans outlines names groups owned links each are o
     let long : length owned ≡ length (file_scopes outlines) = as_long (IsOwnedBy keeps groups) owned users own ∙ kept_each files texts scans outlines each are in
     subst (λ (n : ℕ). AllZip (IsLinkedFor names groups n) links users) long linked
 
-module _ (units : List UnitScope) (names : List (List ℕ)) (groups : List Group) (words : ℕ) (rows : List (List ℕ)) (of_units of_groups : List (List Link)) (gate : ℕ) (rows_are : AllZip (IsRowOf names words) rows (map (λ unit. implicit ++ unit.names) units ++ replicate (length groups) (implicit ++ []))) (users : List ScopeUnit) (long : length users ≡ length units) (links_are : AllZip (IsLinkedFor names groups (length units)) of_units users) {keeps : Bool} (members_are : AreMembers keeps groups users gate of_groups) where
+module _ (units : List UnitScope) (names : List (List ℕ)) (groups : List Group) (words : ℕ) (rows : List (List ℕ)) (of_units of_groups : List (List Link)) (library_number : ℕ) (rows_are : AllZip (IsRowOf names words) rows (map (λ unit. implicit ++ unit.names) units ++ replicate (length groups) (implicit ++ []))) (users : List ScopeUnit) (long : length users ≡ length units) (links_are : AllZip (IsLinkedFor names groups (length units)) of_units users) {keeps : Bool} (members_are : AreMembers keeps groups users library_number of_groups) where
   abbrev lists : List (List (List ℕ))
   lists = map (λ (unit : UnitScope). implicit ++ unit.names) units ++ replicate (length groups) (implicit ++ [])
 
@@ -67,11 +67,11 @@ module _ (units : List UnitScope) (names : List (List ℕ)) (groups : List Group
 
   pub ready_even : AreEven words rows
   ready_even k d within =
-      let row = at_place (IsRowOf names words) rows lists k d [] rows_are (omega (arith, rows_long, lists_long)) in
+      let row = at_index (IsRowOf names words) rows lists k d [] rows_are (omega (arith, rows_long, lists_long)) in
       row.even
 
   unit_below : (at : ℕ) → at < length of_units → (link : Link) → Contains (links_at of_units at) link → link.source < length rows
-  unit_below at within link there = by_link ((at_place (IsLinkedFor names groups (length units)) of_units users at [] no_unit links_are (omega (arith, units_long, long))).only link there) where
+  unit_below at within link there = by_link ((at_index (IsLinkedFor names groups (length units)) of_units users at [] no_unit links_are (omega (arith, units_long, long))).only link there) where
     by_link : Contains [] link ⊎ IsLinkFor names groups (length units) (unit_wants (get_or users at no_unit)) link → link.source < length rows
     by_link (inl none) = absurd (omega (arith, none.1))
     by_link (inr for) =

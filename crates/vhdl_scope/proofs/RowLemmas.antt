@@ -34,10 +34,10 @@ values_long f (suc count) = omega (arith, length-append (values f count) (f coun
 pub value_at : (f : ℕ → ℕ) (count at : ℕ) → at < count → get_or (values f count) at 0 ≡ f at
 unfolding values
 value_at f zero at within = absurd (omega (arith, within))
-value_at f (suc count) at within = by_place (value_at f count at) (cases_lt at count) where
-  by_place : (at < count → get_or (values f count) at 0 ≡ f at) → (at < count) ⊎ (count ≤ at) → get_or (values f count ++ f count ∷ []) at 0 ≡ f at
-  by_place earlier (inl before) = get_or-append (values f count) (f count ∷ []) 0 at (omega (arith, values_long f count)) ∙ earlier before
-  by_place earlier (inr last) =
+value_at f (suc count) at within = by_index (value_at f count at) (cases_lt at count) where
+  by_index : (at < count → get_or (values f count) at 0 ≡ f at) → (at < count) ⊎ (count ≤ at) → get_or (values f count ++ f count ∷ []) at 0 ≡ f at
+  by_index earlier (inl before) = get_or-append (values f count) (f count ∷ []) 0 at (omega (arith, values_long f count)) ∙ earlier before
+  by_index earlier (inr last) =
       let same : at ≡ count = omega arith in
       ap (λ (n : ℕ). get_or (values f count ++ f count ∷ []) n 0) (same ∙ sym (values_long f count)) ∙ (get_or-append_seam (values f count) (f count) [] 0 ∙ ap f (sym same))
 
@@ -50,20 +50,20 @@ values_least f g zero each = omega arith
 values_least f g (suc count) each =
     omega (arith, sum_by-append (λ (n : ℕ). n) (values f count) (f count ∷ []), sum_by-append (λ (n : ℕ). n) (values g count) (g count ∷ []), values_least f g count (λ at below. each at (omega arith)), each count (omega arith))
 
-values_less : (f g : ℕ → ℕ) (count place : ℕ) → ((at : ℕ) → at < count → f at ≤ g at) → place < count → f place < g place → weight (values f count) < weight (values g count)
+values_less : (f g : ℕ → ℕ) (count row_index : ℕ) → ((at : ℕ) → at < count → f at ≤ g at) → row_index < count → f row_index < g row_index → weight (values f count) < weight (values g count)
 unfolding values
-values_less f g zero place each within less = absurd (omega (arith, within))
-values_less f g (suc count) place each within less = by_place (λ before. values_less f g count place (λ at below. each at (omega arith)) before less) (cases_lt place count) where
+values_less f g zero row_index each within less = absurd (omega (arith, within))
+values_less f g (suc count) row_index each within less = by_index (λ before. values_less f g count row_index (λ at below. each at (omega arith)) before less) (cases_lt row_index count) where
   f_sum : weight (values f count ++ f count ∷ []) ≡ weight (values f count) + weight (f count ∷ [])
   f_sum = sum_by-append (λ (n : ℕ). n) (values f count) (f count ∷ [])
 
   g_sum : weight (values g count ++ g count ∷ []) ≡ weight (values g count) + weight (g count ∷ [])
   g_sum = sum_by-append (λ (n : ℕ). n) (values g count) (g count ∷ [])
 
-  by_place : (place < count → weight (values f count) < weight (values g count)) → (place < count) ⊎ (count ≤ place) → weight (values f count ++ f count ∷ []) < weight (values g count ++ g count ∷ [])
-  by_place earlier (inl before) = let rest = earlier before in let here = each count (omega arith) in omega (arith, f_sum, g_sum, rest, here)
-  by_place earlier (inr last) =
-      let same : place ≡ count = omega arith in
+  by_index : (row_index < count → weight (values f count) < weight (values g count)) → (row_index < count) ⊎ (count ≤ row_index) → weight (values f count ++ f count ∷ []) < weight (values g count ++ g count ∷ [])
+  by_index earlier (inl before) = let rest = earlier before in let here = each count (omega arith) in omega (arith, f_sum, g_sum, rest, here)
+  by_index earlier (inr last) =
+      let same : row_index ≡ count = omega arith in
       let here : f count < g count = subst (λ (n : ℕ). f n < g n) same less in
       let rest = values_least f g count (λ at below. each at (omega arith)) in omega (arith, f_sum, g_sum, rest, here)
 
@@ -124,13 +124,13 @@ unfolding word_or
 empty_told none at = refl
 
 last_none : (first : List Run) (last : Run) (at : ℕ) → ((none : ℕ) → word_or (word_or none (last ∷ []) at) first at ≡ none) → (none : ℕ) → word_or none first at ≡ none
-last_none first last at each none = by_place (cases_lt at last.end) where
-  by_place : (at < last.end) ⊎ (last.end ≤ at) → word_or none first at ≡ none
-  by_place (inl before) =
+last_none first last at each none = by_index (cases_lt at last.end) where
+  by_index : (at < last.end) ⊎ (last.end ≤ at) → word_or none first at ≡ none
+  by_index (inl before) =
       let one : word_or last.word first at ≡ 0 = ap (λ (w : ℕ). word_or w first at) (sym (word_here last [] 0 at before)) ∙ each 0 in
       let two : word_or last.word first at ≡ 1 = ap (λ (w : ℕ). word_or w first at) (sym (word_here last [] 1 at before)) ∙ each 1 in
       absurd (omega (arith, one, two))
-  by_place (inr after) = ap (λ (w : ℕ). word_or w first at) (sym (word_later last [] none at after ∙ empty_told none at)) ∙ each none
+  by_index (inr after) = ap (λ (w : ℕ). word_or w first at) (sym (word_later last [] none at after ∙ empty_told none at)) ∙ each none
 
 pub runs_none : (words : ℕ → ℕ) → AreRunsTo 0 words []
 runs_none words = record { told = λ none at below. absurd (omega (arith, below)); past = λ none at after. empty_told none at }
@@ -142,12 +142,12 @@ module _ (start end word : ℕ) (words : ℕ → ℕ) (more : start < end) (is :
   -- a run more
   pub run_more : (runs : List Run) → AreRunsTo start words runs → AreRunsTo end words (runs ++ next ∷ [])
   run_more runs so_far = record { told = told; past = past } where
-    by_place : (none at : ℕ) → at < end → (at < start) ⊎ (start ≤ at) → word_or none (runs ++ next ∷ []) at ≡ words at
-    by_place none at below (inl before) = word_append runs (next ∷ []) none at ∙ so_far.told (word_or none (next ∷ []) at) at before
-    by_place none at below (inr after) = word_append runs (next ∷ []) none at ∙ (so_far.past (word_or none (next ∷ []) at) at after ∙ (word_here next [] none at below ∙ sym (is at after below)))
+    by_index : (none at : ℕ) → at < end → (at < start) ⊎ (start ≤ at) → word_or none (runs ++ next ∷ []) at ≡ words at
+    by_index none at below (inl before) = word_append runs (next ∷ []) none at ∙ so_far.told (word_or none (next ∷ []) at) at before
+    by_index none at below (inr after) = word_append runs (next ∷ []) none at ∙ (so_far.past (word_or none (next ∷ []) at) at after ∙ (word_here next [] none at below ∙ sym (is at after below)))
 
     told : (none at : ℕ) → at < end → word_or none (runs ++ next ∷ []) at ≡ words at
-    told none at below = by_place none at below (cases_lt at start)
+    told none at below = by_index none at below (cases_lt at start)
 
     past : (none at : ℕ) → end ≤ at → word_or none (runs ++ next ∷ []) at ≡ none
     past none at after = word_append runs (next ∷ []) none at ∙ (so_far.past (word_or none (next ∷ []) at) at (omega arith) ∙ (word_later next [] none at after ∙ empty_told none at))
@@ -161,12 +161,12 @@ module _ (start end word : ℕ) (words : ℕ → ℕ) (more : start < end) (is :
     here : (none at : ℕ) → at < end → word_or none (first ++ next ∷ []) at ≡ word_or word first at
     here none at below = word_append first (next ∷ []) none at ∙ ap (λ (w : ℕ). word_or w first at) (word_here next [] none at below)
 
-    by_place : (at : ℕ) → at < end → (at < start) ⊎ (start ≤ at) → word_or word first at ≡ words at
-    by_place at below (inl before) = sym (before_word at) ∙ so_far.told word at before
-    by_place at below (inr after) = sym (before_word at) ∙ (so_far.past word at after ∙ sym (is at after below))
+    by_index : (at : ℕ) → at < end → (at < start) ⊎ (start ≤ at) → word_or word first at ≡ words at
+    by_index at below (inl before) = sym (before_word at) ∙ so_far.told word at before
+    by_index at below (inr after) = sym (before_word at) ∙ (so_far.past word at after ∙ sym (is at after below))
 
     told : (none at : ℕ) → at < end → word_or none (first ++ next ∷ []) at ≡ words at
-    told none at below = here none at below ∙ by_place at below (cases_lt at start)
+    told none at below = here none at below ∙ by_index at below (cases_lt at start)
 
     past : (none at : ℕ) → end ≤ at → word_or none (first ++ next ∷ []) at ≡ none
     past none at after =
@@ -180,10 +180,10 @@ bit_or_less : (a b : ℕ) → bit_or a b ≢ a → a < bit_or a b
 bit_or_less a b differ = omega (arith, differ, le_or_l a b)
 
 pub merged_bits : (words : ℕ) (first second merged : List Run) → ((at : ℕ) → at < words → word_or 0 merged at ≡ both_words first second at) → (number : ℕ) → row_has (row_words words merged) number ≡ (row_has (row_words words first) number || row_has (row_words words second) number)
-merged_bits words first second merged each = joined (row_words words first) (row_words words second) (row_words words merged) (λ at. by_place at (cases_lt at words)) where
-  by_place : (at : ℕ) → (at < words) ⊎ (words ≤ at) → get_or (row_words words merged) at 0 ≡ bit_or (get_or (row_words words first) at 0) (get_or (row_words words second) at 0)
-  by_place at (inl within) = rw (word_told words merged at within, word_told words first at within, word_told words second at within) (each at within)
-  by_place at (inr far) = rw (word_past words merged at far, word_past words first at far, word_past words second at far) (sym (or_zero_l 0))
+merged_bits words first second merged each = joined (row_words words first) (row_words words second) (row_words words merged) (λ at. by_index at (cases_lt at words)) where
+  by_index : (at : ℕ) → (at < words) ⊎ (words ≤ at) → get_or (row_words words merged) at 0 ≡ bit_or (get_or (row_words words first) at 0) (get_or (row_words words second) at 0)
+  by_index at (inl within) = rw (word_told words merged at within, word_told words first at within, word_told words second at within) (each at within)
+  by_index at (inr far) = rw (word_past words merged at far, word_past words first at far, word_past words second at far) (sym (or_zero_l 0))
 
 pub merged_grows : (words : ℕ) (first second merged : List Run) → AreRunsTo words (both_words first second) merged → ((at : ℕ) → at < words → both_words first second at < 18446744073709551616) → HasMore words first second → gap (row_words words merged) < gap (row_words words first)
 unfolding row_words
@@ -202,10 +202,10 @@ one_over [] second none long other has at = absurd (omega (arith, long))
 one_over (a ∷ b ∷ rest) second none long other has at = absurd (omega (arith, long))
 one_over (a ∷ []) [] none long other has at = absurd (omega (arith, other))
 one_over (a ∷ []) (b ∷ c ∷ rest) none long other has at = absurd (omega (arith, other))
-one_over (a ∷ []) (b ∷ []) none long other has at = ap (λ (end : ℕ). bit_or (cond (nat_lt at a.end) a.word 0) (cond (nat_lt at end) b.word 0)) (sym has.0) ∙ by_place (nat_lt at a.end) where
-  by_place : (here : Bool) → bit_or (cond here a.word 0) (cond here b.word 0) ≡ cond here a.word 0
-  by_place true = has.1
-  by_place false = refl
+one_over (a ∷ []) (b ∷ []) none long other has at = ap (λ (end : ℕ). bit_or (cond (nat_lt at a.end) a.word 0) (cond (nat_lt at end) b.word 0)) (sym has.0) ∙ by_index (nat_lt at a.end) where
+  by_index : (here : Bool) → bit_or (cond here a.word 0) (cond here b.word 0) ≡ cond here a.word 0
+  by_index true = has.1
+  by_index false = refl
 
 -- nothing is merged yet
 pub merged_none : (first second : List Run) → AreMergedTo 0 first second [] false
@@ -216,7 +216,7 @@ merged_none first second = record {
   more = λ grew. let never : ⊥ = cc in absurd never;
 }
 
--- the words up to a place more are merged
+-- the words up to an index more are merged
 module _ (first second : List Run) (start end own other : ℕ) (longer : start < end) (one : (at : ℕ) → start ≤ at → at < end → word_or 0 first at ≡ own) (two : (at : ℕ) → start ≤ at → at < end → word_or 0 second at ≡ other) where
   pub both_told : (at : ℕ) → start ≤ at → at < end → both_words first second at ≡ bit_or own other
   both_told at after below = rw (one at after below, two at after below) refl
@@ -224,10 +224,10 @@ module _ (first second : List Run) (start end own other : ℕ) (longer : start <
   pub merged_more : (merged after : List Run) (grown : Bool) → AreMergedTo start first second merged grown → AreRunsTo end (both_words first second) after → bit_or own other < 18446744073709551616 → AreMergedTo end first second after (grown || not (nat_eq (bit_or own other) own))
   merged_more merged after grown so_far runs fits = record { runs = runs; fit = fit; same = same grown so_far.same; more = more grown so_far.more } where
     fit : (at : ℕ) → at < end → both_words first second at < 18446744073709551616
-    fit at below = by_place (cases_lt at start) where
-      by_place : (at < start) ⊎ (start ≤ at) → both_words first second at < 18446744073709551616
-      by_place (inl before) = so_far.fit at before
-      by_place (inr from) = let is = both_told at from below in omega (arith, is, fits)
+    fit at below = by_index (cases_lt at start) where
+      by_index : (at < start) ⊎ (start ≤ at) → both_words first second at < 18446744073709551616
+      by_index (inl before) = so_far.fit at before
+      by_index (inr from) = let is = both_told at from below in omega (arith, is, fits)
 
     same : (b : Bool) → (b ≡ false → (at : ℕ) → at < start → both_words first second at ≡ word_or 0 first at) → (b || not (nat_eq (bit_or own other) own)) ≡ false → (at : ℕ) → at < end → both_words first second at ≡ word_or 0 first at
     same true before told = let never : ⊥ = cc in absurd never
@@ -250,24 +250,24 @@ module _ (first second : List Run) (start end own other : ℕ) (longer : start <
 
 -- a walk over runs
 passed_on : (runs : List Run) (at index : ℕ) (run : Run) → index < length runs → get_or runs index run ≡ run → run.end ≤ at → ArePassed at runs (drop index runs) → ArePassed at runs (drop (index + 1) runs)
-passed_on runs at index run within here end passed place from =
-    sym (ap (λ (some : List Run). word_or 0 some place) (drop_more runs index run within) ∙ (ap (λ (r : Run). word_or 0 (r ∷ drop (index + 1) runs) place) here ∙ word_later run (drop (index + 1) runs) 0 place (omega arith)))
-    ∙ passed place from
+passed_on runs at index run within here end passed row_index from =
+    sym (ap (λ (some : List Run). word_or 0 some row_index) (drop_more runs index run within) ∙ (ap (λ (r : Run). word_or 0 (r ∷ drop (index + 1) runs) row_index) here ∙ word_later run (drop (index + 1) runs) 0 row_index (omega arith)))
+    ∙ passed row_index from
 
 pub walk_on : (runs : List Run) (none : Run) (at index : ℕ) → index < length runs → (get_or runs index none).end ≤ at → ArePassed at runs (drop index runs) → ArePassed at runs (drop (index + 1) runs)
 walk_on runs none at index within end passed = passed_on runs at index (get_or runs index none) within (get_or_default runs index (get_or runs index none) none within) end passed
 
-pub stands : (runs : List Run) (none : Run) (at index place : ℕ) → index < length runs → ArePassed at runs (drop index runs) → at ≤ place → place < (get_or runs index none).end → word_or 0 runs place ≡ (get_or runs index none).word
-stands runs none at index place within passed from before =
-    sym (passed place from) ∙ (ap (λ (some : List Run). word_or 0 some place) (drop_more runs index none within) ∙ word_here (get_or runs index none) (drop (index + 1) runs) 0 place before)
+pub stands : (runs : List Run) (none : Run) (at index row_index : ℕ) → index < length runs → ArePassed at runs (drop index runs) → at ≤ row_index → row_index < (get_or runs index none).end → word_or 0 runs row_index ≡ (get_or runs index none).word
+stands runs none at index row_index within passed from before =
+    sym (passed row_index from) ∙ (ap (λ (some : List Run). word_or 0 some row_index) (drop_more runs index none within) ∙ word_here (get_or runs index none) (drop (index + 1) runs) 0 row_index before)
 
-pub stands_past : (runs : List Run) (at index place : ℕ) → length runs ≤ index → ArePassed at runs (drop index runs) → at ≤ place → word_or 0 runs place ≡ 0
-stands_past runs at index place far passed from = sym (passed place from) ∙ (ap (λ (some : List Run). word_or 0 some place) (drop_of_length-le runs far) ∙ empty_told 0 place)
+pub stands_past : (runs : List Run) (at index row_index : ℕ) → length runs ≤ index → ArePassed at runs (drop index runs) → at ≤ row_index → word_or 0 runs row_index ≡ 0
+stands_past runs at index row_index far passed from = sym (passed row_index from) ∙ (ap (λ (some : List Run). word_or 0 some row_index) (drop_of_length-le runs far) ∙ empty_told 0 row_index)
 
 pub passed_all : (runs : List Run) (at index : ℕ) → length runs ≤ index → ArePassed at runs (drop index runs) → ArePassed at runs (drop (length runs) runs)
-passed_all runs at index far passed place from = ap (λ (some : List Run). word_or 0 some place) (drop-length runs ∙ sym (drop_of_length-le runs far)) ∙ passed place from
+passed_all runs at index far passed row_index from = ap (λ (some : List Run). word_or 0 some row_index) (drop-length runs ∙ sym (drop_of_length-le runs far)) ∙ passed row_index from
 
--- the first run that ends past a place tells its word
+-- the first run that ends past an index tells its word
 pub word_found : (runs : List Run) (none : Run) (at index : ℕ) → index < length runs → word_or 0 (drop index runs) at ≡ word_or 0 runs at → at < (get_or runs index none).end → (get_or runs index none).word ≡ word_or 0 runs at
 word_found runs none at index within so_far before =
     sym (word_here (get_or runs index none) (drop (index + 1) runs) 0 at before) ∙ (sym (ap (λ (some : List Run). word_or 0 some at) (drop_more runs index none within)) ∙ so_far)

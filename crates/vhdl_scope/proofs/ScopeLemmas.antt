@@ -16,9 +16,9 @@ use Rattle.base.specs.declared.refs.Ref.{Ref}
 use Rattle.base.specs.declared.project.ProjectFile.{ProjectFile}
 use Rattle.vhdl_spec.specs.References.{configured, structural_by}
 use Rattle.vhdl_spec.specs.Visibility.{ScopeUnit, configured_name, scope_unit, scope_units}
-use Rattle.vhdl_refs.specs.Mentions.{structural_of}
-use Rattle.vhdl_outlines.specs.declared.outlines.UnitScope.{UnitScope}
-use Rattle.vhdl_outlines.specs.Outlines.{scope_of, scopes_of}
+use Rattle.vhdl_outline.specs.UnresolvedRefs.{structural_of}
+use Rattle.vhdl_outline.specs.declared.outlines.UnitScope.{UnitScope}
+use Rattle.vhdl_outline.specs.Outlines.{scope_of, scopes_of}
 use Rattle.vhdl_scope.specs.declared.groups.Owned.{Owned}
 use Rattle.vhdl_scope.specs.declared.want.Group.{Group}
 use Rattle.vhdl_scope.specs.Scopes.{AreGrouped, as_scope, units_before}
@@ -99,13 +99,13 @@ as_long R [] (y ∷ ys) all = absurd all
 as_long R (x ∷ xs) [] all = absurd all
 as_long R (x ∷ xs) (y ∷ ys) all = ap suc (as_long R xs ys (all.1))
 
--- what holds at each place
-pub at_place : {X Y : Type 0} (R : X → Y → Type 0) (xs : List X) (ys : List Y) (k : ℕ) (d : X) (e : Y) → AllZip R xs ys → k < length ys → R (get_or xs k d) (get_or ys k e)
-at_place R [] [] k d e all within = absurd (omega arith)
-at_place R [] (y ∷ ys) k d e all within = absurd all
-at_place R (x ∷ xs) [] k d e all within = absurd all
-at_place R (x ∷ xs) (y ∷ ys) zero d e all within = all.0
-at_place R (x ∷ xs) (y ∷ ys) (suc k) d e all within = at_place R xs ys k d e (all.1) (omega arith)
+-- what holds at each index
+pub at_index : {X Y : Type 0} (R : X → Y → Type 0) (xs : List X) (ys : List Y) (k : ℕ) (d : X) (e : Y) → AllZip R xs ys → k < length ys → R (get_or xs k d) (get_or ys k e)
+at_index R [] [] k d e all within = absurd (omega arith)
+at_index R [] (y ∷ ys) k d e all within = absurd all
+at_index R (x ∷ xs) [] k d e all within = absurd all
+at_index R (x ∷ xs) (y ∷ ys) zero d e all within = all.0
+at_index R (x ∷ xs) (y ∷ ys) (suc k) d e all within = at_index R xs ys k d e (all.1) (omega arith)
 
 -- the start of one file more
 pub starts_more : (starts : List ℕ) (start end : ℕ) (wanted : ℕ → ℕ) → length starts ≡ end → start ≡ wanted end → ((file : ℕ) → file < end → get_or starts file 0 ≡ wanted file) → (file : ℕ) → file < end + 1 → get_or (starts ++ start ∷ []) file 0 ≡ wanted file

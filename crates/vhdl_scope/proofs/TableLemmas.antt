@@ -14,7 +14,7 @@ use Rattle.vhdl_spec.specs.Visibility.{ScopeUnit, scope_unit, scope_units, sees}
 use Rattle.vhdl_spec.proofs.SomeTests.{some_of, Contains-later}
 use Rattle.vhdl_scope.specs.declared.scope.Scopes.{Scopes}
 use Rattle.vhdl_scope.specs.Bits.{row_has}
-use Rattle.vhdl_scope.specs.Links.{place_row}
+use Rattle.vhdl_scope.specs.Links.{index_row}
 use Rattle.vhdl_scope.specs.Names.{name_of_number, number_of}
 use Rattle.vhdl_scope.specs.Scopes.{AreScopes, as_scope, units_before}
 use Rattle.vhdl_scope.specs.Exact.{AreGrown}
@@ -72,30 +72,30 @@ unit_found (x ∷ files) (y ∷ texts) (z ∷ scans) (suc at) number file text s
     let rest : List ScopeUnit = scope_units files texts scans in
     let later = unit_found files texts scans at number file text scan unit f t s u in
     let long : length (first ++ scope_units (take at files) (take at texts) (take at scans)) ≡ length first + units_before files texts scans at = length-append first (scope_units (take at files) (take at texts) (take at scans)) in
-    let place : length (first ++ scope_units (take at files) (take at texts) (take at scans)) + number ≡ length first + (units_before files texts scans at + number) = omega (arith, long) in
-    rw place (omega (arith, later.0, length-append first rest), get_or-append-add first rest (units_before files texts scans at + number) no_unit ∙ later.1)
+    let row_index : length (first ++ scope_units (take at files) (take at texts) (take at scans)) + number ≡ length first + (units_before files texts scans at + number) = omega (arith, long) in
+    rw row_index (omega (arith, later.0, length-append first rest), get_or-append-add first rest (units_before files texts scans at + number) no_unit ∙ later.1)
 
 -- the names of a row are those that its unit sees
 module _ (units : List ScopeUnit) (names : List (List ℕ)) (rows : List (List ℕ)) (is : AreGrown (map as_scope units) units names rows) (at : ℕ) (within : at < length units) (user : ScopeUnit) (found : get_or units at no_unit ≡ user) where
   row : List ℕ
-  row = place_row rows at
+  row = index_row rows at
 
-  there : (name : List ℕ) → list_any (bytes_eq name) (row_names names (place_row rows at)) ≡ true → sees units user name ≡ true
+  there : (name : List ℕ) → list_any (bytes_eq name) (row_names names (index_row rows at)) ≡ true → sees units user name ≡ true
   there name told =
-      let some = some_of (bytes_eq name) (row_names names (place_row rows at)) told in
+      let some = some_of (bytes_eq name) (row_names names (index_row rows at)) told in
       let same : name ≡ some.0 = same_bytes name some.0 some.2 in
-      let kept = from_filter (λ (n : List ℕ). row_has (place_row rows at) (number_of names n)) names some.0 some.1 in
+      let kept = from_filter (λ (n : List ℕ). row_has (index_row rows at) (number_of names n)) names some.0 some.1 in
       let seen = only_seen units names rows is at within (number_of names some.0) (kept.1) in
       let name_is : name_of_number names (number_of names some.0) ≡ some.0 = (numbered bytes_eq same_bytes told_same names some.0 [] (kept.0)).1 in
       subst (λ (n : List ℕ). sees units user n ≡ true) (name_is ∙ sym same) (subst (λ (u : ScopeUnit). sees units u (name_of_number names (number_of names some.0)) ≡ true) found seen)
 
-  back : (name : List ℕ) → sees units user name ≡ true → list_any (bytes_eq name) (row_names names (place_row rows at)) ≡ true
+  back : (name : List ℕ) → sees units user name ≡ true → list_any (bytes_eq name) (row_names names (index_row rows at)) ≡ true
   back name told =
       let seen = all_seen units names rows is at within name (subst (λ (u : ScopeUnit). sees units u name ≡ true) (sym found) told) in
-      any_by (bytes_eq name) (row_names names (place_row rows at)) name (in_filter (λ (n : List ℕ). row_has (place_row rows at) (number_of names n)) names name (seen.0) (seen.1)) (told_same name name refl)
+      any_by (bytes_eq name) (row_names names (index_row rows at)) name (in_filter (λ (n : List ℕ). row_has (index_row rows at) (number_of names n)) names name (seen.0) (seen.1)) (told_same name name refl)
 
-  pub row_is : (name : List ℕ) → list_any (bytes_eq name) (row_names names (place_row rows at)) ≡ sees units user name
-  row_is name = both_ways (list_any (bytes_eq name) (row_names names (place_row rows at))) (sees units user name) (there name) (back name)
+  pub row_is : (name : List ℕ) → list_any (bytes_eq name) (row_names names (index_row rows at)) ≡ sees units user name
+  row_is name = both_ways (list_any (bytes_eq name) (row_names names (index_row rows at))) (sees units user name) (there name) (back name)
 
 pub visible : (files : List ProjectFile) (texts : List (List ℕ)) (scans : List Scan) (scopes : Scopes) (names : List (List ℕ)) (rows : List (List ℕ)) → AreScopes files texts scans scopes → AreGrown (map as_scope (scope_units files texts scans)) (scope_units files texts scans) names rows → AreVisible files texts scans (table_of scopes.starts.items names rows)
 unfolding table_of
@@ -107,12 +107,12 @@ visible files texts scans scopes names rows are grown = record { each = are.each
   by_unit id user unit name =
       let file_within : id.file < length files = slice_get_within files id.file unit.file unit.is_file in
       let start : get_or scopes.starts.items id.file 0 ≡ units_before files texts scans id.file = are.starts id.file file_within in
-      let place = unit_found files texts scans id.file id.unit unit.file unit.text unit.scan unit.unit unit.is_file unit.is_text unit.is_scan unit.is_unit in
-      let found : get_or (scope_units files texts scans) (units_before files texts scans id.file + id.unit) no_unit ≡ user = place.1 ∙ sym unit.is in
+      let row_index = unit_found files texts scans id.file id.unit unit.file unit.text unit.scan unit.unit unit.is_file unit.is_text unit.is_scan unit.is_unit in
+      let found : get_or (scope_units files texts scans) (units_before files texts scans id.file + id.unit) no_unit ≡ user = row_index.1 ∙ sym unit.is in
       let enough : length (scope_units files texts scans) ≤ length rows = rows_enough (scope_units files texts scans) names rows grown in
-      let set : get_or (map (row_names names) rows) (units_before files texts scans id.file + id.unit) [] ≡ row_names names (place_row rows (units_before files texts scans id.file + id.unit)) =
-      get_or-map (row_names names) rows (units_before files texts scans id.file + id.unit) [] [] (omega (arith, place.0)) in
-      rw start (rw set (row_is (scope_units files texts scans) names rows grown (units_before files texts scans id.file + id.unit) (place.0) user found name))
+      let set : get_or (map (row_names names) rows) (units_before files texts scans id.file + id.unit) [] ≡ row_names names (index_row rows (units_before files texts scans id.file + id.unit)) =
+      get_or-map (row_names names) rows (units_before files texts scans id.file + id.unit) [] [] (omega (arith, row_index.0)) in
+      rw start (rw set (row_is (scope_units files texts scans) names rows grown (units_before files texts scans id.file + id.unit) (row_index.0) user found name))
 
 -- a name that has a number is in a row where its bit is set
 pub by_number : (names : List (List ℕ)) (row name : List ℕ) (number : ℕ) → number ≡ number_of names name → number < length names → row_has row number ≡ list_any (bytes_eq name) (row_names names row)
@@ -143,10 +143,10 @@ pub set_there : (names : List (List ℕ)) (rows : List (List ℕ)) (at : ℕ) (r
 set_there names rows at row is = get_or-map (row_names names) rows at row [] (slice_get_within rows at row is) ∙ ap (row_names names) (get_or_from_slice_get rows at row row is)
 
 pub set_past : (names : List (List ℕ)) (rows : List (List ℕ)) (at : ℕ) → slice_get rows at ≡ None → get_or (map (row_names names) rows) at [] ≡ []
-set_past names rows at is = by_place (cases_lt at (length rows)) where
-  by_place : (at < length rows) ⊎ (length rows ≤ at) → get_or (map (row_names names) rows) at [] ≡ []
-  by_place (inl within) = let never : Some (get_or rows at []) ≡ None = sym (slice_get-get_or rows at [] within) ∙ is in let impossible : ⊥ = cc in absurd impossible
-  by_place (inr past_end) = get_or_past (map (row_names names) rows) at [] (omega (arith, length-map rows (row_names names)))
+set_past names rows at is = by_index (cases_lt at (length rows)) where
+  by_index : (at < length rows) ⊎ (length rows ≤ at) → get_or (map (row_names names) rows) at [] ≡ []
+  by_index (inl within) = let never : Some (get_or rows at []) ≡ None = sym (slice_get-get_or rows at [] within) ∙ is in let impossible : ⊥ = cc in absurd impossible
+  by_index (inr past_end) = get_or_past (map (row_names names) rows) at [] (omega (arith, length-map rows (row_names names)))
 
 pub table_there : (starts : List ℕ) (names rows : List (List ℕ)) (table : Table) (id : UnitId) (row : List ℕ) → table_of starts names rows ≡ table → slice_get rows (get_or starts id.file 0 + id.unit) ≡ Some row → set_at table id ≡ row_names names row
 unfolding table_of
@@ -156,7 +156,7 @@ pub table_past : (starts : List ℕ) (names rows : List (List ℕ)) (table : Tab
 unfolding table_of
 table_past starts names rows table id view is = subst (λ (t : Table). set_at t id ≡ []) view (set_past names rows (get_or starts id.file 0 + id.unit) is)
 
--- a place in slices is one in what they are of
+-- an index in slices is one in what they are of
 pub moved : {X : Type 0} (starts starts' : List ℕ) (rows rows' : List X) (file unit : ℕ) (r : Option X) → starts ≡ starts' → rows ≡ rows' → r ≡ slice_get rows (get_or starts file 0 + unit) → slice_get rows' (get_or starts' file 0 + unit) ≡ r
 moved {X} starts starts' rows rows' file unit r same_starts same_rows is =
     sym (is ∙ (ap (λ (some : List X). slice_get some (get_or starts file 0 + unit)) same_rows ∙ ap (λ (some : List ℕ). slice_get rows' (get_or some file 0 + unit)) same_starts))

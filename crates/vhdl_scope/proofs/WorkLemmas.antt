@@ -11,8 +11,8 @@ use Rattle.vhdl_scope.specs.Links.{links_at}
 use Rattle.vhdl_scope.specs.Work.{KnowReaders, AreReaders, HasListed, HaveReader, readers_at}
 use Rattle.vhdl_scope.proofs.LookLemmas.{one_of}
 
-pub listed_both : (first next work : List ℕ) (marks : List Bool) (mid : List ℕ) (halfway : List Bool) (more : List ℕ) (after : List Bool) → HasListed first work marks mid halfway → HasListed next mid halfway more after → HasListed (first ++ next) work marks more after
-listed_both first next work marks mid halfway more after one two = record {
+pub listed_both : (first next work : List ℕ) (flags : List Bool) (mid : List ℕ) (halfway : List Bool) (more : List ℕ) (after : List Bool) → HasListed first work flags mid halfway → HasListed next mid halfway more after → HasListed (first ++ next) work flags more after
+listed_both first next work flags mid halfway more after one two = record {
   each = two.each ∙ one.each;
   is = two.is;
   unchanged = λ (at : ℕ) there. two.unchanged at (one.unchanged at there);
@@ -26,7 +26,7 @@ listed_both first next work marks mid halfway more after one two = record {
 pub reader_both : (at : ℕ) (first next : List Link) (old mid new : List (List ℕ)) → HaveReader at first old mid → HaveReader at next mid new → HaveReader at (first ++ next) old new
 reader_both at first next old mid new one two = record {
   each = two.each ∙ one.each;
-  places = subst (λ (places : ℕ). AreReaders places new) one.each two.places;
+  row_indices = subst (λ (row_indices : ℕ). AreReaders row_indices new) one.each two.row_indices;
   unchanged = λ (source other : ℕ) there. two.unchanged source other (one.unchanged source other there);
   added = λ (link : Link) there. by_part link (Contains-append_cases first next link there);
 } where
@@ -40,13 +40,13 @@ module _ (at : ℕ) (link : Link) (old : List (List ℕ)) (entry : List ℕ) (is
   here = get_or-set_same old link.source entry [] within ∙ is
 
   stays : (source other : ℕ) → Contains (readers_at old source) other → Contains (readers_at (set old link.source entry) source) other
-  stays source other there = by_place (eqb_tells source link.source) where
-    by_place : ((nat_eq source link.source ≡ true) × (source ≡ link.source)) ⊎ ((nat_eq source link.source ≡ false) × (source ≢ link.source)) → Contains (readers_at (set old link.source entry) source) other
-    by_place (inl (told, same)) =
+  stays source other there = by_index (eqb_tells source link.source) where
+    by_index : ((nat_eq source link.source ≡ true) × (source ≡ link.source)) ⊎ ((nat_eq source link.source ≡ false) × (source ≢ link.source)) → Contains (readers_at (set old link.source entry) source) other
+    by_index (inl (told, same)) =
         let before : Contains (readers_at old link.source) other = subst (λ (s : ℕ). Contains (readers_at old s) other) same there in
         subst (λ (s : ℕ). Contains (readers_at (set old link.source entry) s) other) (sym same)
         (subst (λ (some : List ℕ). Contains some other) (sym here) (Contains-append_left (readers_at old link.source) (at ∷ []) other before))
-    by_place (inr (told, differ)) = subst (λ (some : List ℕ). Contains some other) (sym (get_or-set_other old link.source source entry [] differ)) there
+    by_index (inr (told, differ)) = subst (λ (some : List ℕ). Contains some other) (sym (get_or-set_other old link.source source entry [] differ)) there
 
   reads : (other : Link) → Contains (link ∷ []) other → Contains (readers_at (set old link.source entry) other.source) at
   reads other there =
@@ -56,29 +56,29 @@ module _ (at : ℕ) (link : Link) (old : List (List ℕ)) (entry : List ℕ) (is
   pub one_reader : AreReaders (length old) old → at < length old → HaveReader at (link ∷ []) old (set old link.source entry)
   one_reader readers below = record {
     each = length-set old link.source entry;
-    places = All-set (All (λ (other : ℕ). other < length old)) old link.source entry (subst (All (λ (other : ℕ). other < length old)) (sym is) (All-push (λ (other : ℕ). other < length old) (readers_at old link.source) at (All-get_or (All (λ (other : ℕ). other < length old)) old link.source [] within readers) below)) readers;
+    row_indices = All-set (All (λ (other : ℕ). other < length old)) old link.source entry (subst (All (λ (other : ℕ). other < length old)) (sym is) (All-push (λ (other : ℕ). other < length old) (readers_at old link.source) at (All-get_or (All (λ (other : ℕ). other < length old)) old link.source [] within readers) below)) readers;
     unchanged = stays;
     added = reads;
   }
 
--- the readers of one place more are known
+-- the readers of one index more are known
 pub known_more : (links : List (List Link)) (old new : List (List ℕ)) (end : ℕ) (some : List Link) → some ≡ links_at links end → HaveReader end some old new → ((at : ℕ) (link : Link) → at < end → Contains (links_at links at) link → Contains (readers_at old link.source) at) → (at : ℕ) (link : Link) → at < end + 1 → Contains (links_at links at) link → Contains (readers_at new link.source) at
-known_more links old new end some is have known at link below there = by_place (eqb_tells at end) where
-  by_place : ((nat_eq at end ≡ true) × (at ≡ end)) ⊎ ((nat_eq at end ≡ false) × (at ≢ end)) → Contains (readers_at new link.source) at
-  by_place (inl (told, same)) =
+known_more links old new end some is have known at link below there = by_index (eqb_tells at end) where
+  by_index : ((nat_eq at end ≡ true) × (at ≡ end)) ⊎ ((nat_eq at end ≡ false) × (at ≢ end)) → Contains (readers_at new link.source) at
+  by_index (inl (told, same)) =
       let here : Contains (links_at links end) link = subst (λ (n : ℕ). Contains (links_at links n) link) same there in
       subst (λ (n : ℕ). Contains (readers_at new link.source) n) (sym same) (have.added link (subst (λ (l : List Link). Contains l link) (sym is) here))
-  by_place (inr (told, differ)) = have.unchanged link.source at (known at link (omega arith) there)
+  by_index (inr (told, differ)) = have.unchanged link.source at (known at link (omega arith) there)
 
--- no place past the last has links
+-- no index past the last has links
 pub known_past : (links : List (List Link)) (readers : List (List ℕ)) (end : ℕ) → length links ≤ end → ((at : ℕ) (link : Link) → at < end → Contains (links_at links at) link → Contains (readers_at readers link.source) at) → KnowReaders links readers
-known_past links readers end all known at link there = by_place (cases_lt at end) where
+known_past links readers end all known at link there = by_index (cases_lt at end) where
   never : end ≤ at → Contains (readers_at readers link.source) at
   never after =
       let none : links_at links at ≡ [] = get_or_past links at [] (omega arith) in
       let in_none : Contains [] link = subst (λ (l : List Link). Contains l link) none there in
       absurd (omega (arith, in_none.1))
 
-  by_place : (at < end) ⊎ (end ≤ at) → Contains (readers_at readers link.source) at
-  by_place (inl before) = known at link before there
-  by_place (inr after) = never after
+  by_index : (at < end) ⊎ (end ≤ at) → Contains (readers_at readers link.source) at
+  by_index (inl before) = known at link before there
+  by_index (inr after) = never after

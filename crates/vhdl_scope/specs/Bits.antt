@@ -7,7 +7,7 @@ use Rattle.std.specs.Int.{bit_at}
 unfoldable pub row_has : List ℕ → ℕ → Bool
 row_has row number = nat_eq (bit_at (slice_index row (number / 64)) (number % 64)) 1
 
--- the row of a place has a number
+-- the row of an index has a number
 abbrev pub has : List (List ℕ) → ℕ → ℕ → Bool
 has rows at number = row_has (slice_index_or rows at []) number
 
@@ -15,7 +15,7 @@ has rows at number = row_has (slice_index_or rows at []) number
 abbrev pub IsPartOf : (ℕ → Bool) → (ℕ → Bool) → Type 0
 IsPartOf some all = (number : ℕ) → IsTrue (some number) → IsTrue (all number)
 
--- at each place each number of the one set is in the other
+-- at each index each number of the one set is in the other
 abbrev pub AreWithin : (ℕ → ℕ → Bool) → (ℕ → ℕ → Bool) → Type 0
 AreWithin some all = (at : ℕ) → IsPartOf (some at) (all at)
 

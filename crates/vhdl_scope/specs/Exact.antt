@@ -4,7 +4,7 @@ use Rattle.std.specs.List.{AllZip, flat_map}
 use Rattle.vhdl_spec.specs.References.{work}
 use Rattle.vhdl_spec.specs.Visibility.{ScopeUnit}
 use Rattle.vhdl_scope.specs.declared.links.Link.{Link}
-use Rattle.vhdl_outlines.specs.declared.outlines.UnitScope.{UnitScope}
+use Rattle.vhdl_outline.specs.declared.outlines.UnitScope.{UnitScope}
 use Rattle.vhdl_scope.specs.declared.want.Group.{Group}
 use Rattle.vhdl_scope.specs.Bits.{has}
 use Rattle.vhdl_scope.specs.Links.{AreTaken, HasSpread}

@@ -5,7 +5,7 @@ use Rattle.std.specs.Bool.{Decides}
 use Rattle.std.specs.Cmp.{IsEquivalence, IsTotalOrder, decided, on_total}
 use Rattle.std.specs.Ordering.{is_eq, on}
 use Rattle.std.specs.declared.cmp.Ordering.{Ordering}
-use Rattle.vhdl_keys.specs.KeyParts.{KeyParts, parts_cmp, parts_decide, parts_ties, parts_total}
+use Rattle.vhdl_units.specs.KeyParts.{KeyParts, parts_cmp, parts_decide, parts_ties, parts_total}
 use Rattle.vhdl_scope.specs.declared.want.Group.{Group}
 use Rattle.vhdl_scope.specs.Groups.{group_parts, is_same_group}
 

@@ -1,6 +1,6 @@
 -- Groups of units, by name.
 use Rattle.std.specs.Prelude.{Bool}
-use Rattle.vhdl_keys.specs.KeyParts.{KeyParts, is_same_parts}
+use Rattle.vhdl_units.specs.KeyParts.{KeyParts, is_same_parts}
 use Rattle.vhdl_scope.specs.declared.want.Group.{Group}
 
 -- what tells groups apart

@@ -8,39 +8,39 @@ use Rattle.vhdl_scope.specs.declared.want.Group.{Group}
 use Rattle.vhdl_scope.specs.declared.want.Want.{Want}
 use Rattle.vhdl_scope.specs.Links.{links_at}
 use Rattle.vhdl_scope.specs.Names.{group_number, number_of}
-use Rattle.vhdl_scope.specs.Wants.{gate_of, unit_wants, user_groups}
+use Rattle.vhdl_scope.specs.Wants.{needed_library, unit_wants, user_groups}
 
--- the link for what is wanted: to the place of the group, after those of the units
+-- the link for what is wanted: to the index of the group, after those of the units
 abbrev pub link_for : List (List ℕ) → List Group → ℕ → Want → Link
-link_for names groups places want = record { gate = number_of names (gate_of want); source = places + group_number groups want.group }
+link_for names groups row_indices want = record { library_number = number_of names (needed_library want); source = row_indices + group_number groups want.group }
 
 -- the library and the group that are wanted have numbers
 pub record IsThere (names : List (List ℕ)) (groups : List Group) (want : Want) : Type 0 where
-  pub gate : Contains names (gate_of want)
+  pub library_number : Contains names (needed_library want)
   pub group : Contains groups want.group
 
 -- a link is one for what is wanted
-pub record IsLinkFor (names : List (List ℕ)) (groups : List Group) (places : ℕ) (wants : List Want) (link : Link) : Type 0 where
+pub record IsLinkFor (names : List (List ℕ)) (groups : List Group) (row_indices : ℕ) (wants : List Want) (link : Link) : Type 0 where
   pub want : Want
   pub wanted : Contains wants want
   pub there : IsThere names groups want
-  pub is : link ≡ link_for names groups places want
+  pub is : link ≡ link_for names groups row_indices want
 
 -- the links for what is wanted were added
-pub record HasLinked (names : List (List ℕ)) (groups : List Group) (places : ℕ) (wants : List Want) (old new : List Link) : Type 0 where
+pub record HasLinked (names : List (List ℕ)) (groups : List Group) (row_indices : ℕ) (wants : List Want) (old new : List Link) : Type 0 where
   pub unchanged : (link : Link) → Contains old link → Contains new link
-  pub linked : (want : Want) → Contains wants want → IsThere names groups want → Contains new (link_for names groups places want)
-  pub only : (link : Link) → Contains new link → Contains old link ⊎ IsLinkFor names groups places wants link
+  pub linked : (want : Want) → Contains wants want → IsThere names groups want → Contains new (link_for names groups row_indices want)
+  pub only : (link : Link) → Contains new link → Contains old link ⊎ IsLinkFor names groups row_indices wants link
 
 -- links are exactly those for what is wanted
 abbrev pub IsLinked : List (List ℕ) → List Group → ℕ → List Want → List Link → Type 0
-IsLinked names groups places wants links = HasLinked names groups places wants [] links
+IsLinked names groups row_indices wants links = HasLinked names groups row_indices wants [] links
 
 -- links are exactly those for what a unit wants
 abbrev pub IsLinkedFor : List (List ℕ) → List Group → ℕ → List Link → ScopeUnit → Type 0
-IsLinkedFor names groups places links unit = IsLinked names groups places (unit_wants unit) links
+IsLinkedFor names groups row_indices links unit = IsLinked names groups row_indices (unit_wants unit) links
 
--- a place is that of one of some groups
+-- an index is that of one of some groups
 pub record IsOneOf (groups own : List Group) (at : ℕ) : Type 0 where
   pub group : Group
   pub owned : Contains own group
@@ -54,20 +54,20 @@ pub record HasMember (groups own : List Group) (link : Link) (old new : List (Li
   pub joined : (group : Group) → Contains own group → Contains groups group → Contains (links_at new (group_number groups group)) link
   pub only : (at : ℕ) (other : Link) → Contains (links_at new at) other → Contains (links_at old at) other ⊎ ((other ≡ link) × IsOneOf groups own at)
 
--- a unit for places where there is none
+-- a unit for indices where there is none
 pub no_user : ScopeUnit
 no_user = record { library = []; unit = record { kind = Entity; name = []; owner = Nothing; lead = 0; first = 0; last = 0 }; names = []; contexts = []; configured = Nothing }
 
--- the groups of the unit of a place
+-- the groups of the unit of an index
 abbrev pub groups_at : Bool → List ScopeUnit → ℕ → List Group
 groups_at keeps users at = user_groups keeps (slice_index_or users at no_user)
 
--- the links of groups lead to exactly the units in them, up to a place
-pub record AreMembersTo (keeps : Bool) (end : ℕ) (groups : List Group) (users : List ScopeUnit) (gate : ℕ) (members : List (List Link)) : Type 0 where
+-- the links of groups lead to exactly the units in them, up to an index
+pub record AreMembersTo (keeps : Bool) (end : ℕ) (groups : List Group) (users : List ScopeUnit) (library_number : ℕ) (members : List (List Link)) : Type 0 where
   pub each : length members ≡ length groups
-  pub joined : (at : ℕ) → at < end → (group : Group) → Contains (groups_at keeps users at) group → Contains groups group → Contains (links_at members (group_number groups group)) (record { gate = gate; source = at })
-  pub only : (place : ℕ) (link : Link) → Contains (links_at members place) link → (link.gate ≡ gate) × (link.source < end) × IsOneOf groups (groups_at keeps users link.source) place
+  pub joined : (at : ℕ) → at < end → (group : Group) → Contains (groups_at keeps users at) group → Contains groups group → Contains (links_at members (group_number groups group)) (record { library_number = library_number; source = at })
+  pub only : (row_index : ℕ) (link : Link) → Contains (links_at members row_index) link → (link.library_number ≡ library_number) × (link.source < end) × IsOneOf groups (groups_at keeps users link.source) row_index
 
 -- for each group, by number, the links that lead to exactly the units in it
 abbrev pub AreMembers : Bool → List Group → List ScopeUnit → ℕ → List (List Link) → Type 0
-AreMembers keeps groups users gate members = AreMembersTo keeps (length users) groups users gate members
+AreMembers keeps groups users library_number members = AreMembersTo keeps (length users) groups users library_number members

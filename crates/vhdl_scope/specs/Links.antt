@@ -4,23 +4,23 @@ use Rattle.std.specs.List.{All}
 use Rattle.vhdl_scope.specs.declared.links.Link.{Link}
 use Rattle.vhdl_scope.specs.Bits.{has, row_has, gap, IsPartOf, AreWithin}
 
--- the links of a place
+-- the links of an index
 abbrev pub links_at : List (List Link) → ℕ → List Link
 links_at links at = slice_index_or links at []
 
--- a set takes what a link hands on, where it has the link's gate
+-- a set takes what a link hands on, where it has the link's library number
 abbrev pub TakesLink : (ℕ → ℕ → Bool) → (ℕ → Bool) → Link → Type 0
-TakesLink sets own link = IsTrue (own link.gate) → IsPartOf (sets link.source) own
+TakesLink sets own link = IsTrue (own link.library_number) → IsPartOf (sets link.source) own
 
 -- a set takes what each of some links hands on
 abbrev pub TakesAll : List Link → (ℕ → ℕ → Bool) → (ℕ → Bool) → Type 0
 TakesAll links sets own = (link : Link) → Contains links link → TakesLink sets own link
 
--- the set of each place takes what its links hand on
+-- the set of each index takes what its links hand on
 abbrev pub AreTaken : List (List Link) → (ℕ → ℕ → Bool) → Type 0
 AreTaken links sets = (at : ℕ) → TakesAll (links_at links at) sets (sets at)
 
--- the set of each place before one takes what its links hand on
+-- the set of each index before one takes what its links hand on
 abbrev pub AreTakenTo : ℕ → List (List Link) → (ℕ → ℕ → Bool) → Type 0
 AreTakenTo end links sets = (at : ℕ) → at < end → TakesAll (links_at links at) sets (sets at)
 
@@ -34,24 +34,24 @@ pub record HasLooked (links : List Link) (rows : List (List ℕ)) (old new : Lis
   pub taken : grown ≡ false → TakesAll links (has rows) (row_has old)
   pub grows : grown ≡ true → gap new < gap old
 
--- the row of a place
-abbrev pub place_row : List (List ℕ) → ℕ → List ℕ
-place_row rows at = slice_index_or rows at []
+-- the row of an index
+abbrev pub index_row : List (List ℕ) → ℕ → List ℕ
+index_row rows at = slice_index_or rows at []
 
 -- all rows have so many words
 abbrev pub AreEven : ℕ → List (List ℕ) → Type 0
 AreEven words rows = All (λ row. length row ≡ words) rows
 
--- the links lead to places below a number
+-- the links lead to indices below a number
 abbrev pub AreBelow : ℕ → List (List Link) → Type 0
-AreBelow places links = All (λ some. All (λ link. link.source < places) some) links
+AreBelow row_indices links = All (λ some. All (λ link. link.source < row_indices) some) links
 
--- the row of one place took what its links hand on, and no other row changed
+-- the row of one index took what its links hand on, and no other row changed
 pub record HasLookedAt (links : List (List Link)) (at : ℕ) (old new : List (List ℕ)) (grown : Bool) : Type 0 where
   pub each : length new ≡ length old
   pub even : (words : ℕ) → AreEven words old → AreEven words new
-  pub others : (other : ℕ) → other ≢ at → place_row new other ≡ place_row old other
-  pub looked : HasLooked (links_at links at) old (place_row old at) (place_row new at) grown
+  pub others : (other : ℕ) → other ≢ at → index_row new other ≡ index_row old other
+  pub looked : HasLooked (links_at links at) old (index_row old at) (index_row new at) grown
 
 -- what the sets have become by any number of looks: no smaller, and within closed sets around them
 pub record HasSpread (links : List (List Link)) (old new : List (List ℕ)) : Type 0 where

@@ -3,6 +3,6 @@ use Rattle.std.specs.Prelude.{ℕ, ◌<◌, List}
 use Rattle.std.specs.List.{All}
 use Rattle.vhdl_scope.specs.declared.order.Step.{Step}
 
--- the steps stand at places below a number
+-- the steps stand at indices below a number
 abbrev pub AreStepsBelow : ℕ → List Step → Type 0
-AreStepsBelow places steps = All (λ step. step.place < places) steps
+AreStepsBelow row_indices steps = All (λ step. step.row_index < row_indices) steps

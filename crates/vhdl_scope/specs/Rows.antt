@@ -4,7 +4,7 @@ use Rattle.vhdl_scope.specs.declared.row.Run.{Run}
 use Rattle.vhdl_scope.specs.declared.row.Runs.{Runs}
 use Rattle.vhdl_scope.specs.declared.row.Runs.TheVariants.{One, Many}
 
--- the word at a place: that of the first run that ends past it, and another one where there is none
+-- the word at an index: that of the first run that ends past it, and another one where there is none
 unfoldable pub word_or : ℕ → List Run → ℕ → ℕ
 word_or none [] at = none
 word_or none (run ∷ rest) at = if nat_lt at run.end then run.word else word_or none rest at
@@ -23,26 +23,26 @@ unfoldable pub runs_of : Runs → List Run
 runs_of (One run) = run
 runs_of (Many runs) = runs.items
 
--- runs tell the words before a place, and none from there on
+-- runs tell the words before an index, and none from there on
 pub record AreRunsTo (end : ℕ) (word : ℕ → ℕ) (runs : List Run) : Type 0 where
   pub told : (none at : ℕ) → at < end → word_or none runs at ≡ word at
   pub past : (none at : ℕ) → end ≤ at → word_or none runs at ≡ none
 
--- the runs before one end at a place or before it
+-- the runs before one end at an index or before it
 abbrev pub ArePassed : ℕ → List Run → List Run → Type 0
-ArePassed at runs rest = (place : ℕ) → at ≤ place → word_or 0 rest place ≡ word_or 0 runs place
+ArePassed at runs rest = (row_index : ℕ) → at ≤ row_index → word_or 0 rest row_index ≡ word_or 0 runs row_index
 
--- the bits of both words at a place
+-- the bits of both words at an index
 abbrev pub both_words : List Run → List Run → ℕ → ℕ
 both_words first second at = bit_or (word_or 0 first at) (word_or 0 second at)
 
--- a place where the second runs have a bit that the first ones don't have
+-- an index where the second runs have a bit that the first ones don't have
 pub record HasMore (end : ℕ) (first second : List Run) : Type 0 where
   pub at : ℕ
   pub below : at < end
   pub differs : both_words first second at ≢ word_or 0 first at
 
--- runs have the bits of two rows in the words before a place; and whether these are more than those of the first row
+-- runs have the bits of two rows in the words before an index; and whether these are more than those of the first row
 pub record AreMergedTo (end : ℕ) (first second merged : List Run) (grown : Bool) : Type 0 where
   pub runs : AreRunsTo end (both_words first second) merged
   pub fit : (at : ℕ) → at < end → both_words first second at < 18446744073709551616

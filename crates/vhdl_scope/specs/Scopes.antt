@@ -5,7 +5,7 @@ use Rattle.base.specs.declared.design.Scan.{Scan}
 use Rattle.base.specs.declared.project.ProjectFile.{ProjectFile}
 use Rattle.vhdl_spec.specs.References.{is_configuration}
 use Rattle.vhdl_spec.specs.Visibility.{ScopeUnit, scope_unit, scope_units}
-use Rattle.vhdl_outlines.specs.declared.outlines.UnitScope.{UnitScope}
+use Rattle.vhdl_outline.specs.declared.outlines.UnitScope.{UnitScope}
 use Rattle.vhdl_scope.specs.declared.groups.Owned.{Owned}
 use Rattle.vhdl_scope.specs.declared.links.Link.{Link}
 use Rattle.vhdl_scope.specs.declared.want.Group.{Group}
@@ -46,4 +46,4 @@ pub record AreScopes (files : List ProjectFile) (texts : List (List ℕ)) (scans
 
 -- the links of the units of a file were added
 abbrev pub AddsLinks : List (List ℕ) → List Group → ℕ → List ℕ → List ℕ → Scan → List (List Link) → List (List Link) → Type 0
-AddsLinks names groups places library text scan old new = (units : List ScopeUnit) → AllZip (IsLinkedFor names groups places) old units → AllZip (IsLinkedFor names groups places) new (units ++ map (scope_unit library text scan) scan.units)
+AddsLinks names groups row_indices library text scan old new = (units : List ScopeUnit) → AllZip (IsLinkedFor names groups row_indices) old units → AllZip (IsLinkedFor names groups row_indices) new (units ++ map (scope_unit library text scan) scan.units)

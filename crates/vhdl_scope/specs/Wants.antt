@@ -70,8 +70,8 @@ abbrev pub context_want : List ℕ → Ref → Want
 context_want library ref = record { own = bytes_eq ref.library work; group = group_of true (if bytes_eq ref.library work then library else ref.library) ref.name }
 
 -- the name of the library that a unit has to see to get what it wants: `work` is always seen
-abbrev pub gate_of : Want → List ℕ
-gate_of want = if want.own then work else want.group.library
+abbrev pub needed_library : Want → List ℕ
+needed_library want = if want.own then work else want.group.library
 
 -- what a unit of a library wants; a configuration configures this architecture
 abbrev pub wants_of : List ℕ → DesignUnit → List Ref → MaybeText → List Want

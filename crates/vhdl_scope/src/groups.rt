@@ -10,9 +10,9 @@ use crate::wants::{
     architectures_of, group_of, is_architecture_kind, is_context_kind, is_secondary,
 };
 use base::{NoMemory, Text, Unit};
-use base_key_index::KeyNumbers;
+use base_collections::KeyNumbers;
 use std::alloc::Global;
-use vhdl_keys::owner_name;
+use vhdl_units::owner_name;
 
 /// Groups, in the order in which they were met.
 pub type Groups = KeyNumbers<Group>;

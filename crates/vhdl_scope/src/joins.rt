@@ -14,32 +14,38 @@ use crate::groups::{self, Groups, Owned};
 use crate::links::{Link, LinkList};
 use crate::names::{self, Names};
 use crate::want::Want;
-use crate::wants::gate_of;
+use crate::wants::needed_library;
 use base::NoMemory;
 use std::alloc::Global;
 
-/// Adds the link for what a unit wants, where there is such a library and such a group. `places` is the number of units:
+/// Adds the link for what a unit wants, where there is such a library and such a group. `row_indices` is the number of units:
 /// the groups come after them.
 pub fn add_link(
     alloc: Global,
     names: &Names,
     groups: &Groups,
-    places: usize,
+    row_indices: usize,
     want: &Want,
     links: &mut LinkList,
 ) -> Result<(), NoMemory>
-    requires { places + length groups.now ≤ usize.MAX }
+    requires { row_indices + length groups.now ≤ usize.MAX }
     ensures { OnOk result
-        (HasLinked (keys_of names.now) groups.now places (want.now ∷ []) links.old links.new) }
+        (HasLinked (keys_of names.now) groups.now row_indices (want.now ∷ []) links.old links.new) }
 {
-    let Some(gate) = names::find(names, gate_of(want)) else {
+    let Some(library_number) = names::find(names, needed_library(want)) else {
         return Ok(());
     };
     let Some(group) = groups::find(groups, &want.group) else {
         return Ok(());
     };
-    let source = places + group;
-    links.push(alloc, Link { gate, source })?;
+    let source = row_indices + group;
+    links.push(
+        alloc,
+        Link {
+            library_number,
+            source,
+        },
+    )?;
     Ok(())
 }
 
@@ -96,30 +102,33 @@ fn join_own(
 }
 
 /// Lists of no link.
-fn no_links(alloc: Global, places: usize) -> Result<Vec<LinkList>, NoMemory>
-    ensures { IfOk result (λ links. links.items ≡ replicate places []) }
+fn no_links(alloc: Global, row_indices: usize) -> Result<Vec<LinkList>, NoMemory>
+    ensures { IfOk result (λ links. links.items ≡ replicate row_indices []) }
 {
     let mut links: Vec<LinkList> = Vec::new(alloc);
-    for _ in 0..places {
+    for _ in 0..row_indices {
         links.push(LinkList::new(alloc))?;
     }
     Ok(links)
 }
 
-/// The links of all groups, each to the units in it, with a gate that is always open.
+/// The links of all groups, each to the units in it, with a library number that is always open.
 pub fn group_links(
     alloc: Global,
     groups: &Groups,
     owned: &[Owned],
-    gate: usize,
+    library_number: usize,
 ) -> Result<Vec<LinkList>, NoMemory>
     ensures { IfOk result (λ members. (keeps : Bool) (users : List ScopeUnit) →
         AllZip (IsOwnedBy keeps groups.now) owned.now users →
-        AreMembers keeps groups.now users gate members.items) }
+        AreMembers keeps groups.now users library_number members.items) }
 {
     let mut members = no_links(alloc, groups.len())?;
     for at in 0..owned.len() {
-        let link = Link { gate, source: at };
+        let link = Link {
+            library_number,
+            source: at,
+        };
         join_own(alloc, owned[at], link, &mut members)?;
     }
     Ok(members)

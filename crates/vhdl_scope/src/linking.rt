@@ -5,8 +5,8 @@ ghost use Rattle.std.specs.List.{All, AllZip};
 ghost use Rattle.base.specs.declared.child.MaybeText.TheVariants.{Given};
 ghost use Rattle.base.specs.declared.design.Scan.{Scan};
 ghost use Rattle.vhdl_spec.specs.Visibility.{configured_name, primary_name, scope_units};
-ghost use Rattle.vhdl_refs.specs.Mentions.{NamedLiesIn, named_ref};
-ghost use Rattle.vhdl_outlines.specs.Outlines.{FilesAreOf, FilesLieIn, IsOutlineOf, OutlineLiesIn};
+ghost use Rattle.vhdl_outline.specs.UnresolvedRefs.{NamedLiesIn, named_ref};
+ghost use Rattle.vhdl_outline.specs.Outlines.{FilesAreOf, FilesLieIn, IsOutlineOf, OutlineLiesIn};
 ghost use Rattle.vhdl_scope.specs.Names.{keys_of};
 ghost use Rattle.vhdl_scope.specs.Joins.{HasLinked, IsLinkedFor};
 ghost use Rattle.vhdl_scope.specs.Scopes.{AddsLinks};
@@ -20,8 +20,7 @@ use crate::want::Want;
 use crate::wants::{architecture_want, context_want, no_want, primary_want};
 use base::{Items, MaybeText, NoMemory, Project, Text, TextList, Unit, UnitKind};
 use std::alloc::Global;
-use vhdl_outlines::FileOutline;
-use vhdl_refs::NamedRef;
+use vhdl_outline::{FileOutline, NamedRef};
 
 /// Adds the link for what a unit wants of primary units of a name. What is wanted is made in the memory of what isn't
 /// wanted any more, and comes back.
@@ -29,18 +28,18 @@ fn add_primary_link(
     alloc: Global,
     names: &Names,
     groups: &Groups,
-    places: usize,
+    row_indices: usize,
     library: &Text,
     name: &Text,
     links: &mut LinkList,
     used: Want,
 ) -> Result<Want, NoMemory>
-    requires room { places + length groups.now ≤ usize.MAX }
-    ensures { OnOk result (HasLinked (keys_of names.now) groups.now places
+    requires room { row_indices + length groups.now ≤ usize.MAX }
+    ensures { OnOk result (HasLinked (keys_of names.now) groups.now row_indices
         (primary_want library.now name.now ∷ []) links.old links.new) }
 {
     let want = primary_want(library, name, used)?;
-    add_link(alloc, names, groups, places, &want, links)?;
+    add_link(alloc, names, groups, row_indices, &want, links)?;
     Ok(want)
 }
 
@@ -49,20 +48,29 @@ fn add_owner_link(
     alloc: Global,
     names: &Names,
     groups: &Groups,
-    places: usize,
+    row_indices: usize,
     library: &Text,
     owner: &MaybeText,
     links: &mut LinkList,
     used: Want,
 ) -> Result<Want, NoMemory>
-    requires room { places + length groups.now ≤ usize.MAX }
-    ensures { OnOk result (HasLinked (keys_of names.now) groups.now places
+    requires room { row_indices + length groups.now ≤ usize.MAX }
+    ensures { OnOk result (HasLinked (keys_of names.now) groups.now row_indices
         (primary_wants library.now owner.now) links.old links.new) }
 {
     match owner {
         MaybeText::Nothing => Ok(used),
         MaybeText::Given(name) => {
-            add_primary_link(alloc, names, groups, places, library, name, links, used)
+            add_primary_link(
+                alloc,
+                names,
+                groups,
+                row_indices,
+                library,
+                name,
+                links,
+                used,
+            )
         }
     }
 }
@@ -72,14 +80,14 @@ fn add_own_link(
     alloc: Global,
     names: &Names,
     groups: &Groups,
-    places: usize,
+    row_indices: usize,
     library: &Text,
     unit: &Unit,
     links: &mut LinkList,
     used: Want,
 ) -> Result<Want, NoMemory>
-    requires room { places + length groups.now ≤ usize.MAX }
-    ensures { OnOk result (HasLinked (keys_of names.now) groups.now places
+    requires room { row_indices + length groups.now ≤ usize.MAX }
+    ensures { OnOk result (HasLinked (keys_of names.now) groups.now row_indices
         (primary_wants library.now (primary_name unit.now.kind unit.now)) links.old links.new) }
 {
     match unit.kind {
@@ -88,7 +96,7 @@ fn add_own_link(
                 alloc,
                 names,
                 groups,
-                places,
+                row_indices,
                 library,
                 &unit.owner,
                 links,
@@ -100,7 +108,7 @@ fn add_own_link(
                 alloc,
                 names,
                 groups,
-                places,
+                row_indices,
                 library,
                 &unit.owner,
                 links,
@@ -109,7 +117,14 @@ fn add_own_link(
         }
         UnitKind::PackageBody => {
             add_primary_link(
-                alloc, names, groups, places, library, &unit.name, links, used,
+                alloc,
+                names,
+                groups,
+                row_indices,
+                library,
+                &unit.name,
+                links,
+                used,
             )
         }
         _ => Ok(used),
@@ -121,22 +136,22 @@ fn add_architecture_link(
     alloc: Global,
     names: &Names,
     groups: &Groups,
-    places: usize,
+    row_indices: usize,
     library: &Text,
     entity: &Text,
     configured: &MaybeText,
     links: &mut LinkList,
     used: Want,
 ) -> Result<Want, NoMemory>
-    requires room { places + length groups.now ≤ usize.MAX }
-    ensures { OnOk result (HasLinked (keys_of names.now) groups.now places
+    requires room { row_indices + length groups.now ≤ usize.MAX }
+    ensures { OnOk result (HasLinked (keys_of names.now) groups.now row_indices
         (configured_wants library.now (Given entity.now) configured.now) links.old links.new) }
 {
     match configured {
         MaybeText::Nothing => Ok(used),
         MaybeText::Given(name) => {
             let want = architecture_want(library, entity, name, used)?;
-            add_link(alloc, names, groups, places, &want, links)?;
+            add_link(alloc, names, groups, row_indices, &want, links)?;
             Ok(want)
         }
     }
@@ -147,22 +162,30 @@ fn add_configured_link(
     alloc: Global,
     names: &Names,
     groups: &Groups,
-    places: usize,
+    row_indices: usize,
     library: &Text,
     owner: &MaybeText,
     configured: &MaybeText,
     links: &mut LinkList,
     used: Want,
 ) -> Result<Want, NoMemory>
-    requires room { places + length groups.now ≤ usize.MAX }
-    ensures { OnOk result (HasLinked (keys_of names.now) groups.now places
+    requires room { row_indices + length groups.now ≤ usize.MAX }
+    ensures { OnOk result (HasLinked (keys_of names.now) groups.now row_indices
         (configured_wants library.now owner.now configured.now) links.old links.new) }
 {
     match owner {
         MaybeText::Nothing => Ok(used),
         MaybeText::Given(entity) => {
             add_architecture_link(
-                alloc, names, groups, places, library, entity, configured, links, used,
+                alloc,
+                names,
+                groups,
+                row_indices,
+                library,
+                entity,
+                configured,
+                links,
+                used,
             )
         }
     }
@@ -173,15 +196,15 @@ fn add_configuration_link(
     alloc: Global,
     names: &Names,
     groups: &Groups,
-    places: usize,
+    row_indices: usize,
     library: &Text,
     unit: &Unit,
     configured: &MaybeText,
     links: &mut LinkList,
     used: Want,
 ) -> Result<Want, NoMemory>
-    requires room { places + length groups.now ≤ usize.MAX }
-    ensures { OnOk result (HasLinked (keys_of names.now) groups.now places
+    requires room { row_indices + length groups.now ≤ usize.MAX }
+    ensures { OnOk result (HasLinked (keys_of names.now) groups.now row_indices
         (configured_wants library.now unit.now.owner
         (configured_name unit.now.kind configured.now)) links.old links.new) }
 {
@@ -191,7 +214,7 @@ fn add_configuration_link(
                 alloc,
                 names,
                 groups,
-                places,
+                row_indices,
                 library,
                 &unit.owner,
                 configured,
@@ -208,23 +231,23 @@ fn add_context_links(
     alloc: Global,
     names: &Names,
     groups: &Groups,
-    places: usize,
+    row_indices: usize,
     library: &Text,
     text: &[u8],
     found: &[NamedRef],
     links: &mut LinkList,
     used: Want,
 ) -> Result<Want, NoMemory>
-    requires room { places + length groups.now ≤ usize.MAX }
+    requires room { row_indices + length groups.now ≤ usize.MAX }
     requires lie { All (NamedLiesIn text.now) found.now }
-    ensures { OnOk result (HasLinked (keys_of names.now) groups.now places
+    ensures { OnOk result (HasLinked (keys_of names.now) groups.now row_indices
         (map (λ named. context_want library.now (named_ref text.now named)) found.now)
         links.old links.new) }
 {
     let mut want = used;
     for named in found {
         want = context_want(library, text, named, want)?;
-        add_link(alloc, names, groups, places, &want, links)?;
+        add_link(alloc, names, groups, row_indices, &want, links)?;
     }
     Ok(want)
 }
@@ -234,7 +257,7 @@ fn add_unit_links(
     alloc: Global,
     names: &Names,
     groups: &Groups,
-    places: usize,
+    row_indices: usize,
     library: &Text,
     text: &[u8],
     unit: &Unit,
@@ -243,18 +266,43 @@ fn add_unit_links(
     links: &mut LinkList,
     used: Want,
 ) -> Result<Want, NoMemory>
-    requires room { places + length groups.now ≤ usize.MAX }
+    requires room { row_indices + length groups.now ≤ usize.MAX }
     requires lie { All (NamedLiesIn text.now) found.now }
-    ensures { OnOk result (HasLinked (keys_of names.now) groups.now places
+    ensures { OnOk result (HasLinked (keys_of names.now) groups.now row_indices
         (wants_of library.now unit.now (map (named_ref text.now) found.now) configured.now)
         links.old links.new) }
 {
-    let own = add_own_link(alloc, names, groups, places, library, unit, links, used)?;
+    let own = add_own_link(
+        alloc,
+        names,
+        groups,
+        row_indices,
+        library,
+        unit,
+        links,
+        used,
+    )?;
     let want = add_configuration_link(
-        alloc, names, groups, places, library, unit, configured, links, own,
+        alloc,
+        names,
+        groups,
+        row_indices,
+        library,
+        unit,
+        configured,
+        links,
+        own,
     )?;
     Ok(add_context_links(
-        alloc, names, groups, places, library, text, found, links, want,
+        alloc,
+        names,
+        groups,
+        row_indices,
+        library,
+        text,
+        found,
+        links,
+        want,
     )?)
 }
 
@@ -263,17 +311,17 @@ fn add_links(
     alloc: Global,
     names: &Names,
     groups: &Groups,
-    places: usize,
+    row_indices: usize,
     library: &Text,
     text: &[u8],
     file: &FileOutline,
     links: &mut Vec<LinkList>,
     used: Want,
 ) -> Result<Want, NoMemory>
-    requires room { places + length groups.now ≤ usize.MAX }
+    requires room { row_indices + length groups.now ≤ usize.MAX }
     requires lies { OutlineLiesIn text.now file.now }
     ensures { OnOk result ((scan : Scan) → IsOutlineOf text.now scan file.now →
-        AddsLinks (keys_of names.now) groups.now places
+        AddsLinks (keys_of names.now) groups.now row_indices
         library.now text.now scan links.old.items links.new.items) }
 {
     let mut want = used;
@@ -283,12 +331,12 @@ fn add_links(
             alloc,
             names,
             groups,
-            places,
+            row_indices,
             library,
             text,
             file.units.get(number),
-            file.mentions.get(number).contexts.as_slice(),
-            &file.mentions.get(number).configured,
+            file.unresolved.get(number).contexts.as_slice(),
+            &file.unresolved.get(number).configured,
             &mut own,
             want,
         )?;
@@ -302,16 +350,16 @@ pub fn links_of_units(
     alloc: Global,
     names: &Names,
     groups: &Groups,
-    places: usize,
+    row_indices: usize,
     project: &Project,
     texts: &TextList,
     files: &Items<FileOutline>,
 ) -> Result<Vec<LinkList>, NoMemory>
-    requires room { places + length groups.now ≤ usize.MAX }
+    requires room { row_indices + length groups.now ≤ usize.MAX }
     requires each { length texts.now ≡ length project.now.files }
     requires lie { FilesLieIn texts.now files.now }
     ensures { IfOk result (λ links. (scans : List Scan) → FilesAreOf texts.now scans files.now →
-        AllZip (IsLinkedFor (keys_of names.now) groups.now places)
+        AllZip (IsLinkedFor (keys_of names.now) groups.now row_indices)
         links.items (scope_units project.now.files texts.now scans)) }
 {
     let mut links = Vec::new(alloc);
@@ -322,7 +370,7 @@ pub fn links_of_units(
             alloc,
             names,
             groups,
-            places,
+            row_indices,
             library,
             texts.get(file).bytes(),
             files.get(file),

@@ -8,10 +8,10 @@ use std::alloc::Global;
 use std::marker::Model;
 use std::mem;
 
-/// The set of `source` hands its numbers on to the set that the link belongs to, where that set has the number `gate`.
+/// The set of `source` hands its numbers on to the set that the link belongs to, where that set has the number `library_number`.
 #[derive(Clone, Copy)]
 pub struct Link {
-    pub gate: usize,
+    pub library_number: usize,
     pub source: usize,
 }
 

@@ -1,4 +1,4 @@
-//! What one look at a place adds to its set.
+//! What one look at an index adds to its set.
 
 ghost use Rattle.std.specs.Prelude.{◌≡◌, ◌<◌, ◌∷◌, [], IfOk, length};
 ghost use Rattle.std.specs.List.{All};
@@ -15,7 +15,7 @@ fn follow(link: Link, rows: &[Row], row: &mut Draft) -> Result<bool, NoMemory>
     ensures even { length row.new ≡ length row.old }
     ensures looked { IfOk result (HasLooked (link ∷ []) rows.now row.old row.new) }
 {
-    if row.has(link.gate) {
+    if row.has(link.library_number) {
         let grown = row.join(&rows[link.source])?;
         return Ok(grown);
     }

@@ -3,7 +3,7 @@
 ghost use Rattle.std.specs.Prelude.{◌≡◌, ◌<◌, ◌∷◌, ◌++◌, [], Contains, IfOk, IfSome, IfNone, OnOk, Some, length, map, position};
 ghost use Rattle.std.specs.List.{flat_map};
 ghost use Rattle.std.specs.Str.{bytes_eq};
-ghost use Rattle.vhdl_outlines.specs.Outlines.{file_scopes};
+ghost use Rattle.vhdl_outline.specs.Outlines.{file_scopes};
 ghost use Rattle.vhdl_scope.specs.Names.{HasAll, implicit, keys_of, number_of};
 
 use crate::wants::WORK;
@@ -11,7 +11,7 @@ use base::{NoMemory, Text};
 use std::alloc::Global;
 use std::collections::BTreeMap;
 use std::marker::Model;
-use vhdl_outlines::{FileOutline, UnitScope};
+use vhdl_outline::{FileOutline, UnitScope};
 
 /// The second library that each unit sees without a clause.
 pub static STD: [u8; 3] = *b"std";

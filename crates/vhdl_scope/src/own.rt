@@ -2,7 +2,7 @@
 
 ghost use Rattle.std.specs.Prelude.{◌≡◌, ℕ, ◌/◌, ◌<◌, ◌≤◌, ◌*◌, ◌∷◌, ◌++◌, List, [], Contains, IfOk, OnOk, length, map, replicate};
 ghost use Rattle.std.specs.List.{All, AllZip};
-ghost use Rattle.vhdl_outlines.specs.Outlines.{file_scopes};
+ghost use Rattle.vhdl_outline.specs.Outlines.{file_scopes};
 ghost use Rattle.vhdl_scope.specs.Names.{implicit, keys_of};
 ghost use Rattle.vhdl_scope.specs.Graph.{AreNamed, HasPut, IsRowOf};
 
@@ -11,7 +11,7 @@ use crate::row::{Room, Row};
 use crate::wants::WORK;
 use base::{NoMemory, Text};
 use std::alloc::Global;
-use vhdl_outlines::{FileOutline, UnitScope};
+use vhdl_outline::{FileOutline, UnitScope};
 
 /// Puts the number of a name into a row.
 fn put(names: &Names, name: &[u8], row: &mut Room)
@@ -44,7 +44,7 @@ fn implicit_row(alloc: Global, names: &Names, words: usize) -> Result<Row, NoMem
     let mut row = Room::new(alloc, words)?;
     put(names, WORK.as_slice(), &mut row);
     put(names, STD.as_slice(), &mut row);
-    Ok(row.kept(alloc)?)
+    Ok(row.to_row(alloc)?)
 }
 
 /// The row of `work` and `std`, which the first row has, and of further names. What is in `room` is lost.
@@ -67,7 +67,7 @@ fn row_of(
     }
     room.load(first);
     put_all(names, more, room);
-    Ok(room.kept(alloc)?)
+    Ok(room.to_row(alloc)?)
 }
 
 /// Adds the rows that units begin with to those before. What is in `room` is lost.

@@ -1,4 +1,4 @@
-//! Rows: the set of numbers of one place, as it is kept, and as it is worked on.
+//! Rows: the set of numbers of one index, as it is kept, and as it is worked on.
 
 ghost use Rattle.std.specs.Prelude.{◌≡◌, ℕ, ◌/◌, ◌<◌, ◌≤◌, ◌||◌, ◌∷◌, ◌++◌, [], true, false, bit_or, drop, length, nat_eq, IfOk, OnOk, IsTrue, replicate};
 ghost use Rattle.std.specs.Int.{bit_at};
@@ -11,7 +11,7 @@ use std::alloc::Global;
 use std::marker::Model;
 use std::mem::swap;
 
-/// Words of a row that are all the same, from where the run before ends up to a place.
+/// Words of a row that are all the same, from where the run before ends up to an index.
 #[derive(Clone, Copy)]
 pub struct Run {
     pub end: usize,
@@ -72,7 +72,7 @@ impl Model for Draft {
     ghost view = { λ a. row_words a.words a.runs.items };
 }
 
-/// The word at a place.
+/// The word at an index.
 fn word_at(runs: &[Run], at: usize) -> u64
     ensures { result ≡ word_or 0 runs.now at }
 {
@@ -121,7 +121,7 @@ fn are_same(runs: &[Run], other: &[Run]) -> bool
     true
 }
 
-/// Adds words that are all the same, up to a place, after a run that goes on where its words are the same too.
+/// Adds words that are all the same, up to an index, after a run that goes on where its words are the same too.
 fn push_after(runs: &mut Vec<Run>, last: Run, end: usize, word: u64) -> Result<(), NoMemory>
     ensures { OnOk result ((start : ℕ) (words : ℕ → ℕ) →
         AreRunsTo start words (runs.old.items ++ last ∷ []) → start < end →
@@ -137,7 +137,7 @@ fn push_after(runs: &mut Vec<Run>, last: Run, end: usize, word: u64) -> Result<(
     Ok(())
 }
 
-/// Adds words that are all the same, up to a place.
+/// Adds words that are all the same, up to an index.
 fn push_run(runs: &mut Vec<Run>, end: usize, word: u64) -> Result<(), NoMemory>
     ensures { OnOk result ((start : ℕ) (words : ℕ → ℕ) → AreRunsTo start words runs.old.items →
         start < end → ((at : ℕ) → start ≤ at → at < end → words at ≡ word) →
@@ -163,7 +163,7 @@ fn runs_in(alloc: Global, words: &[u64]) -> Result<Vec<Run>, NoMemory>
     Ok(runs)
 }
 
-/// Where a walk along runs stands: the place of a run, its end, and its word.
+/// Where a walk along runs stands: the index of a run, its end, and its word.
 #[derive(Clone, Copy)]
 pub struct Stand {
     pub index: usize,
@@ -171,14 +171,14 @@ pub struct Stand {
     pub word: u64,
 }
 
-/// The first run from a place of runs on that ends past a place of words. After the last run, all words are 0.
+/// The first run from an index of runs on that ends past an index of words. After the last run, all words are 0.
 fn stand_at(words: usize, runs: &[Run], from: usize, at: usize) -> Stand
     requires words { at < words }
     requires passed { ArePassed at runs.now (drop from runs.now) }
     ensures past { at < result.end }
     ensures within { result.end ≤ words }
-    ensures word { (place : ℕ) → at ≤ place → place < result.end →
-        word_or 0 runs.now place ≡ result.word }
+    ensures word { (row_index : ℕ) → at ≤ row_index → row_index < result.end →
+        word_or 0 runs.now row_index ≡ result.word }
     ensures passed { ArePassed at runs.now (drop result.index runs.now) }
 {
     for index in from..runs.len() {
@@ -199,7 +199,7 @@ fn stand_at(words: usize, runs: &[Run], from: usize, at: usize) -> Stand
     }
 }
 
-/// The nearer one of two places.
+/// The nearer one of two indices.
 fn nearer(one: usize, other: usize) -> usize
     ensures past { (at : ℕ) → at < one → at < other → at < result }
     ensures one { result ≤ one }
@@ -408,7 +408,7 @@ impl Room {
     }
 
     /// The numbers as a row.
-    pub fn kept(&self, alloc: Global) -> Result<Row, NoMemory>
+    pub fn to_row(&self, alloc: Global) -> Result<Row, NoMemory>
         ensures { IfOk result (λ row. row ≡ self.now) }
     {
         let runs = runs_in(alloc, self.words.as_slice())?;
@@ -474,7 +474,7 @@ impl Draft {
     }
 
     /// The numbers as a row.
-    pub fn kept(&self, alloc: Global) -> Result<Row, NoMemory>
+    pub fn to_row(&self, alloc: Global) -> Result<Row, NoMemory>
         ensures { IfOk result (λ row. row ≡ self.now) }
     {
         Ok(Row {

@@ -4,13 +4,13 @@ ghost use Rattle.std.specs.Prelude.{◌≡◌, ℕ, List, IfOk, length};
 ghost use Rattle.std.specs.List.{list_any};
 ghost use Rattle.base.specs.declared.design.Scan.{Scan};
 ghost use Rattle.vhdl_spec.specs.References.{is_configuration};
-ghost use Rattle.vhdl_outlines.specs.Outlines.{FilesAreOf};
+ghost use Rattle.vhdl_outline.specs.Outlines.{FilesAreOf};
 ghost use Rattle.vhdl_scope.specs.Scopes.{AreScopes};
 
 use crate::groups::{Groups, Owned, add_groups};
 use base::{Items, NoMemory, Project, Unit, UnitKind};
 use std::alloc::Global;
-use vhdl_outlines::{FileOutline, room_for_units};
+use vhdl_outline::{FileOutline, room_for_units};
 
 /// For each file of a project the number of its first unit; and the groups of units, with the numbers of those that each
 /// unit is in.

@@ -1,4 +1,4 @@
-//! The sets of all places, grown along links until each takes all that its links hand on.
+//! The sets of all indices, grown along links until each takes all that its links hand on.
 
 ghost use Rattle.std.specs.Prelude.{◌≡◌, ℕ, ◌+◌, ◌<◌, ◌∷◌, ◌++◌, [], Contains, false, length, IfOk, OnOk, slice_index, slice_set};
 ghost use Rattle.std.specs.List.{All};
@@ -22,7 +22,7 @@ fn put_back(rows: &mut [Row], at: usize, row: Row)
     rows[at] = row;
 }
 
-/// Looks at a place, and says whether its row has grown. What is in `room` is lost.
+/// Looks at an index, and says whether its row has grown. What is in `room` is lost.
 fn look_at(
     alloc: Global,
     links: &[LinkList],
@@ -40,7 +40,7 @@ fn look_at(
     room.load(&rows[at])?;
     let grown = look(links[at].as_slice(), rows, room)?;
     if grown {
-        put_back(rows, at, room.kept(alloc)?);
+        put_back(rows, at, room.to_row(alloc)?);
     }
     Ok(grown)
 }
@@ -57,7 +57,7 @@ fn top_of(alloc: Global, rows: &[Row], words: usize) -> Result<Draft, NoMemory>
     Ok(top)
 }
 
-/// Looks at a place, unless its row is one that has all numbers of all rows: then there is nothing to take.
+/// Looks at an index, unless its row is one that has all numbers of all rows: then there is nothing to take.
 fn look_below(
     alloc: Global,
     links: &[LinkList],
@@ -70,7 +70,7 @@ fn look_below(
     requires each { length links.now ≡ length rows.old }
     requires even { AreEven (length room.old) rows.old }
     requires below { AreBelow (length rows.old) links.now }
-    requires inside { AreWithin (has rows.old) (λ place. row_has top.now) }
+    requires inside { AreWithin (has rows.old) (λ row_index. row_has top.now) }
     ensures room { length room.new ≡ length room.old }
     ensures looked { IfOk result (HasLookedAt links.now at rows.old rows.new) }
 {
@@ -80,12 +80,12 @@ fn look_below(
     room.load(&rows[at])?;
     let grown = look_up_to(links[at].as_slice(), rows, room, top)?;
     if grown {
-        put_back(rows, at, room.kept(alloc)?);
+        put_back(rows, at, room.to_row(alloc)?);
     }
     Ok(grown)
 }
 
-/// Looks at places, in order. No row has a number that `top` doesn't have.
+/// Looks at indices, in order. No row has a number that `top` doesn't have.
 fn sweep(
     alloc: Global,
     links: &[LinkList],
@@ -97,7 +97,7 @@ fn sweep(
     requires each { length links.now ≡ length rows.old }
     requires even { AreEven (length room.old) rows.old }
     requires below { AreBelow (length rows.old) links.now }
-    requires inside { AreWithin (has rows.old) (λ place. row_has top.now) }
+    requires inside { AreWithin (has rows.old) (λ row_index. row_has top.now) }
     requires within { All (λ at. at < length rows.old) order.now }
     ensures room { length room.new ≡ length room.old }
     ensures spread { OnOk result (HasSpread links.now rows.old rows.new) }
@@ -108,7 +108,7 @@ fn sweep(
     Ok(())
 }
 
-/// Looks at places, from the last on.
+/// Looks at indices, from the last on.
 fn sweep_back(
     alloc: Global,
     links: &[LinkList],
@@ -129,7 +129,7 @@ fn sweep_back(
     Ok(())
 }
 
-/// Looks at places twice, in order. No row has a number that `top` doesn't have.
+/// Looks at indices twice, in order. No row has a number that `top` doesn't have.
 fn sweep_twice(
     alloc: Global,
     links: &[LinkList],
@@ -141,7 +141,7 @@ fn sweep_twice(
     requires each { length links.now ≡ length rows.old }
     requires even { AreEven (length room.old) rows.old }
     requires below { AreBelow (length rows.old) links.now }
-    requires inside { AreWithin (has rows.old) (λ place. row_has top.now) }
+    requires inside { AreWithin (has rows.old) (λ row_index. row_has top.now) }
     requires within { All (λ at. at < length rows.old) order.now }
     ensures room { length room.new ≡ length room.old }
     ensures spread { OnOk result (HasSpread links.now rows.old rows.new) }
@@ -151,7 +151,7 @@ fn sweep_twice(
     Ok(())
 }
 
-/// Looks at each place once, and says whether a row has grown. No row has a number that `top` doesn't have.
+/// Looks at each index once, and says whether a row has grown. No row has a number that `top` doesn't have.
 fn sweep_all(
     alloc: Global,
     links: &[LinkList],
@@ -162,7 +162,7 @@ fn sweep_all(
     requires each { length links.now ≡ length rows.old }
     requires even { AreEven (length room.old) rows.old }
     requires below { AreBelow (length rows.old) links.now }
-    requires inside { AreWithin (has rows.old) (λ place. row_has top.now) }
+    requires inside { AreWithin (has rows.old) (λ row_index. row_has top.now) }
     ensures room { length room.new ≡ length room.old }
     ensures spread { OnOk result (HasSpread links.now rows.old rows.new) }
     ensures taken { IfOk result (λ grown. grown ≡ false → AreTaken links.now (has rows.new)) }
@@ -175,7 +175,7 @@ fn sweep_all(
     Ok(grown)
 }
 
-/// Looks at a place that was taken from the list of work. Where its row has grown, the place and its readers are listed.
+/// Looks at an index that was taken from the list of work. Where its row has grown, the index and its readers are listed.
 fn revisit(
     alloc: Global,
     links: &[LinkList],
@@ -183,32 +183,32 @@ fn revisit(
     rows: &mut [Row],
     room: &mut Draft,
     work: &mut Vec<usize>,
-    marks: &mut [bool],
+    flags: &mut [bool],
     at: usize,
 ) -> Result<(), NoMemory>
     requires at { at < length rows.old }
     requires each { length links.now ≡ length rows.old }
     requires even { AreEven (length room.old) rows.old }
     requires below { AreBelow (length rows.old) links.now }
-    requires marks { length marks.old ≡ length rows.old }
+    requires flags { length flags.old ≡ length rows.old }
     requires readers { length readers.now ≡ length rows.old }
-    requires places { AreReaders (length rows.old) readers.now }
+    requires row_indices { AreReaders (length rows.old) readers.now }
     requires known { KnowReaders links.now readers.now }
-    requires work { IsWork (work.old.items ++ at ∷ []) marks.old }
+    requires work { IsWork (work.old.items ++ at ∷ []) flags.old }
     ensures room { length room.new ≡ length room.old }
     ensures revisited { OnOk result (HasRevisited links.now readers.now at
-        rows.old work.old.items marks.old rows.new work.new.items marks.new) }
+        rows.old work.old.items flags.old rows.new work.new.items flags.new) }
 {
-    marks[at] = false;
+    flags[at] = false;
     let grown = look_at(alloc, links, rows, at, room)?;
     if grown {
-        list_one(work, marks, at)?;
-        list_all(work, marks, readers[at].as_slice())?;
+        list_one(work, flags, at)?;
+        list_all(work, flags, readers[at].as_slice())?;
     }
     Ok(())
 }
 
-/// Looks at places on the list of work until none is on it.
+/// Looks at indices on the list of work until none is on it.
 fn settle(
     alloc: Global,
     links: &[LinkList],
@@ -216,37 +216,37 @@ fn settle(
     rows: &mut [Row],
     room: &mut Draft,
     work: &mut Vec<usize>,
-    marks: &mut [bool],
+    flags: &mut [bool],
 ) -> Result<(), NoMemory>
     requires each { length links.now ≡ length rows.old }
     requires even { AreEven (length room.old) rows.old }
     requires below { AreBelow (length rows.old) links.now }
     requires readers { length readers.now ≡ length rows.old }
-    requires places { AreReaders (length rows.old) readers.now }
+    requires row_indices { AreReaders (length rows.old) readers.now }
     requires known { KnowReaders links.now readers.now }
-    requires settling { IsSettling links.now rows.old rows.old work.old.items marks.old }
+    requires settling { IsSettling links.now rows.old rows.old work.old.items flags.old }
     ensures spread { OnOk result (HasSpread links.now rows.old rows.new) }
     ensures taken { OnOk result (AreTaken links.now (has rows.new)) }
 {
     while let Some(at) = work.pop() {
-        revisit(alloc, links, readers, rows, room, work, marks, at)?;
+        revisit(alloc, links, readers, rows, room, work, flags, at)?;
     }
     Ok(())
 }
 
-/// All places, in order.
-fn all_places(alloc: Global, places: usize) -> Result<Vec<usize>, NoMemory>
-    ensures each { IfOk result (λ work. length work.items ≡ places) }
-    ensures is { IfOk result (λ work. (k : ℕ) → k < places → slice_index work.items k ≡ k) }
+/// All indices, in order.
+fn all_indices(alloc: Global, row_indices: usize) -> Result<Vec<usize>, NoMemory>
+    ensures each { IfOk result (λ work. length work.items ≡ row_indices) }
+    ensures is { IfOk result (λ work. (k : ℕ) → k < row_indices → slice_index work.items k ≡ k) }
 {
     let mut work = Vec::new(alloc);
-    for at in 0..places {
+    for at in 0..row_indices {
         work.push(at)?;
     }
     Ok(work)
 }
 
-/// Looks at places until each takes all that its links hand on: again where a set that it takes from has grown.
+/// Looks at indices until each takes all that its links hand on: again where a set that it takes from has grown.
 fn settle_all(
     alloc: Global,
     links: &[LinkList],
@@ -260,8 +260,8 @@ fn settle_all(
     ensures taken { OnOk result (AreTaken links.now (has rows.new)) }
 {
     let readers = readers_of(alloc, links)?;
-    let mut work = all_places(alloc, rows.len())?;
-    let mut marks = vec![in alloc; true; rows.len()]?;
+    let mut work = all_indices(alloc, rows.len())?;
+    let mut flags = vec![in alloc; true; rows.len()]?;
     settle(
         alloc,
         links,
@@ -269,13 +269,13 @@ fn settle_all(
         rows,
         room,
         &mut work,
-        marks.as_mut_slice(),
+        flags.as_mut_slice(),
     )
 }
 
-/// Grows the sets of all places until each takes all that its links hand on: they are then the least that hold the given
-/// ones and take it. Two sweeps, in an order in which a place comes after those that it takes from, settle rings and
-/// what has none; a sweep back and the list of work settle the rest. Sweeps pass over a place whose row has all there is.
+/// Grows the sets of all indices until each takes all that its links hand on: they are then the least that hold the given
+/// ones and take it. Two sweeps, in an order in which an index comes after those that it takes from, settle rings and
+/// what has none; a sweep back and the list of work settle the rest. Sweeps pass over an index whose row has all there is.
 pub fn spread(
     alloc: Global,
     links: &[LinkList],

@@ -5,7 +5,7 @@ ghost use Rattle.std.specs.List.{flat_map};
 ghost use Rattle.std.specs.Option.{option_map};
 ghost use Rattle.base.specs.declared.design.Scan.{Scan};
 ghost use Rattle.vhdl_spec.specs.Visibility.{scope_units};
-ghost use Rattle.vhdl_outlines.specs.Outlines.{AreOutlined, AreOutlinesOf, file_scopes};
+ghost use Rattle.vhdl_outline.specs.Outlines.{AreOutlined, AreOutlinesOf, file_scopes};
 ghost use Rattle.vhdl_scope.specs.Exact.{AreGrown};
 ghost use Rattle.vhdl_scope.specs.Names.{HasAll, implicit, keys_of};
 ghost use Rattle.vhdl_scope.specs.Scopes.{HasGroups};
@@ -24,7 +24,7 @@ use crate::wants::WORK;
 use base::{NoMemory, Project, TextList, UnitId};
 use std::alloc::Global;
 use std::marker::Model;
-use vhdl_outlines::Outlines;
+use vhdl_outline::Outlines;
 
 /// The rows of units, grown until each takes all that it wants.
 fn grown_rows(
@@ -55,12 +55,12 @@ fn grown_rows(
     }
     let words = names.len() / 64 + 1;
     let mut rows = rows_of(alloc, names, files, groups.len(), words)?;
-    let gate = match names::find(names, WORK.as_slice()) {
-        Some(gate) => gate,
+    let library_number = match names::find(names, WORK.as_slice()) {
+        Some(library_number) => library_number,
         None => unreachable!(),
     };
     let mut links = links_of_units(alloc, names, groups, units, project, texts, &outlines.files)?;
-    let mut members = group_links(alloc, groups, owned, gate)?;
+    let mut members = group_links(alloc, groups, owned, library_number)?;
     links.append(&mut members)?;
     spread(alloc, links.as_slice(), rows.as_mut_slice(), words)?;
     Ok(rows)

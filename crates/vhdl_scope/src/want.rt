@@ -5,16 +5,16 @@ ghost use Rattle.std.specs.Cmp.{partial_equiv_from_equiv, partial_order_from_agr
 ghost use Rattle.std.specs.Cmp.Rules.{hashing};
 ghost use Rattle.std.specs.Ordering.{as_partial_cmp};
 ghost use Rattle.std.proofs.Common.{refl, rules};
-ghost use Rattle.vhdl_keys.specs.KeyParts.{flags_cmp, libraries_cmp};
+ghost use Rattle.vhdl_units.specs.KeyParts.{flags_cmp, libraries_cmp};
 ghost use Rattle.vhdl_scope.specs.Groups.{group_parts, is_same_group};
 ghost use Rattle.vhdl_scope.specs.GroupOrder.{group_cmp, group_ties, group_total, groups_alike, groups_decide};
 
 use base::{NoMemory, Text};
-use base_key_index::Key;
+use base_collections::Key;
 use std::alloc::Global;
 use std::cmp::Ordering;
 use std::hash::{Hash, Hasher};
-use vhdl_keys::order_of_names;
+use vhdl_units::order_of_names;
 
 /// The units of one name in one library: its context declarations, the architectures of one entity, which is their owner,
 /// or its primary units of any kind.
@@ -78,7 +78,7 @@ fn order_of_libraries(one: &Group, other: &Group) -> Ordering
     }
 }
 
-/// By name first, which most often tells two groups of one mark apart, and by no more than it takes.
+/// By name first, which most often tells two groups of one flag apart, and by no more than it takes.
 impl Ord for Group {
     ghost cmp = { group_cmp };
 

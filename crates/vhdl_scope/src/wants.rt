@@ -4,13 +4,13 @@ ghost use Rattle.std.specs.Prelude.{◌≡◌, [], IfOk};
 ghost use Rattle.std.specs.Str.{bytes_eq};
 ghost use Rattle.vhdl_spec.specs.References.{work, is_context_kind};
 ghost use Rattle.vhdl_spec.specs.Visibility.{is_architecture_kind, is_secondary};
-ghost use Rattle.vhdl_refs.specs.Mentions.{NamedLiesIn, named_ref};
-ghost use Rattle.vhdl_scope.specs.Wants.{architecture_want, architectures_of, context_want, gate_of, group_of, primary_want};
+ghost use Rattle.vhdl_outline.specs.UnresolvedRefs.{NamedLiesIn, named_ref};
+ghost use Rattle.vhdl_scope.specs.Wants.{architecture_want, architectures_of, context_want, needed_library, group_of, primary_want};
 
 use crate::want::{Group, Want};
 use base::{NoMemory, Text, UnitKind};
 use std::alloc::Global;
-use vhdl_refs::NamedRef;
+use vhdl_outline::NamedRef;
 use vhdl_units::name_of_token;
 
 /// The library of the unit itself.
@@ -105,7 +105,7 @@ pub fn no_want(alloc: Global) -> Want {
 }
 
 /// The empty text, in the memory of one that isn't used any more.
-fn emptied(used: Text) -> Text
+fn clear_text(used: Text) -> Text
     ensures { result ≡ [] }
 {
     let mut bytes = used.into_vec();
@@ -141,7 +141,7 @@ pub fn primary_want(library: &Text, name: &Text, used: Want) -> Result<Want, NoM
             context: false,
             architecture: false,
             library: copy_in(library, first)?,
-            owner: emptied(third),
+            owner: clear_text(third),
             name: copy_in(name, second)?,
         },
     })
@@ -207,15 +207,15 @@ pub fn context_want(
             context: true,
             architecture: false,
             library,
-            owner: emptied(third),
+            owner: clear_text(third),
             name,
         },
     })
 }
 
 /// The name of the library that a unit has to see.
-pub fn gate_of(want: &Want) -> &[u8]
-    ensures { result.now ≡ gate_of want.now }
+pub fn needed_library(want: &Want) -> &[u8]
+    ensures { result.now ≡ needed_library want.now }
 {
     if want.own {
         WORK.as_slice()

@@ -44,8 +44,8 @@ module _ (ends : Role → Bool) (roles : List Role) where
         elim (back_cases at (omega arith)) [
           | inl (end, empty) ↦ let none : list_any test (back_to ends roles (suc at)) ≡ false = ap (list_any test) empty in let no : ⊥ = cc in absurd no
           | inr (open_here, more) ↦ elim (or_cases (test (role_at roles at)) (list_any test (back_to ends roles at)) (sym (ap (list_any test) more) ∙ some)) [
-            | inl here ↦ record { place = at; before = omega arith; passes = here; open_since = open_more at at (λ between from below. absurd (omega arith)) open_here }
-            | inr later ↦ let found = back_gives at (omega arith) later in let before = found.before in record { place = found.place; before = omega arith; passes = found.passes; open_since = open_more found.place at found.open_since open_here }
+            | inl here ↦ record { token_index = at; before = omega arith; passes = here; open_since = open_more at at (λ between from below. absurd (omega arith)) open_here }
+            | inr later ↦ let found = back_gives at (omega arith) later in let before = found.before in record { token_index = found.token_index; before = omega arith; passes = found.passes; open_since = open_more found.token_index at found.open_since open_here }
           ]
         ]
 
@@ -56,9 +56,9 @@ module _ (ends : Role → Bool) (roles : List Role) where
         let open_here : ends (role_at roles at) ≡ false = is.open_since at (omega arith) (omega arith) in
         elim (back_cases at (omega arith)) [
           | inl (end, empty) ↦ let no : ⊥ = cc in absurd no
-          | inr (open_too, more) ↦ ap (list_any test) more ∙ elim (cases_lt is.place at) [
-            | inl earlier ↦ or_second (test (role_at roles at)) (list_any test (back_to ends roles at)) (back_has at (omega arith) (record { place = is.place; before = earlier; passes = is.passes; open_since = λ between from below. is.open_since between from (omega arith) }))
-            | inr here ↦ let same : is.place ≡ at = omega arith in or_first (test (role_at roles at)) (list_any test (back_to ends roles at)) (subst (λ (n : ℕ). test (role_at roles n) ≡ true) same is.passes)
+          | inr (open_too, more) ↦ ap (list_any test) more ∙ elim (cases_lt is.token_index at) [
+            | inl earlier ↦ or_second (test (role_at roles at)) (list_any test (back_to ends roles at)) (back_has at (omega arith) (record { token_index = is.token_index; before = earlier; passes = is.passes; open_since = λ between from below. is.open_since between from (omega arith) }))
+            | inr here ↦ let same : is.token_index ≡ at = omega arith in or_first (test (role_at roles at)) (list_any test (back_to ends roles at)) (subst (λ (n : ℕ). test (role_at roles n) ≡ true) same is.passes)
           ]
         ]
 

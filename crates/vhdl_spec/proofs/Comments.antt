@@ -3,7 +3,7 @@ use Rattle.std.proofs.Common.{◌≡◌, ℕ, zero, suc, ◌<◌, ◌≤◌, Lis
 use Rattle.std.specs.Prelude.{slice_index_or}
 use Rattle.base.specs.declared.lexical.Span.{Span}
 use Rattle.base.specs.declared.lexical.Tokens.{Tokens}
-use Rattle.vhdl_spec.specs.Tokens.{Row, byte_order_mark, blank, line_comment, block_comment, tool_directive, token, Piece, Place, Leads, comment_of, comments_of, place_after, text_start}
+use Rattle.vhdl_spec.specs.Tokens.{Row, byte_order_mark, blank, line_comment, block_comment, tool_directive, token, LexicalElement, LexState, Leads, comment_of, comments_of, lex_state_after, text_start}
 use Rattle.vhdl_spec.specs.Units.{AreTokensOf}
 
 abbrev pub comment_at : List Span → ℕ → Span
@@ -24,12 +24,12 @@ span_row size block_comment start end rest some within later = later
 span_row size tool_directive start end rest some within later = later
 span_row size (token kind) start end rest some within later = later
 
-span_from : (text : List ℕ) (place : Place) (pieces : List Piece) (end : Place) → Leads text place pieces end → AreSpans (length text) (comments_of pieces)
-span_from text place [] end leads = λ at within. absurd (omega arith)
-span_from text place (piece ∷ pieces) end leads =
-    let starts : piece.start ≡ place.at = leads.0.starts in
-    let some : place.at < piece.end = leads.0.longest.some in
-    span_row (length text) piece.row piece.start piece.end (comments_of pieces) (omega arith) leads.0.longest.within (span_from text (place_after place piece) pieces end leads.1)
+span_from : (text : List ℕ) (lex_state : LexState) (lexical_elements : List LexicalElement) (end : LexState) → Leads text lex_state lexical_elements end → AreSpans (length text) (comments_of lexical_elements)
+span_from text lex_state [] end leads = λ at within. absurd (omega arith)
+span_from text lex_state (lexical_element ∷ lexical_elements) end leads =
+    let starts : lexical_element.start ≡ lex_state.at = leads.0.starts in
+    let some : lex_state.at < lexical_element.end = leads.0.longest.some in
+    span_row (length text) lexical_element.row lexical_element.start lexical_element.end (comments_of lexical_elements) (omega arith) leads.0.longest.within (span_from text (lex_state_after lex_state lexical_element) lexical_elements end leads.1)
 
 comments_lie : (text : List ℕ) (tokens : Tokens) → AreTokensOf text tokens → AreSpans (length text) tokens.comments
 comments_lie text tokens are = subst (AreSpans (length text)) (sym are.2.comments) (span_from text text_start are.0 are.1.end are.1.leads)

@@ -20,8 +20,8 @@ in_file roles at named = ⊎_elim (λ h. h) (λ h. absurd (named (get_or_past ro
 -- ## Where elements end
 
 -- the end lies after a token, within the file
-pub record EndsAfter (roles : List Role) (place last : ℕ) : Type 0 where
-  pub after : place < last
+pub record EndsAfter (roles : List Role) (lex_state last : ℕ) : Type 0 where
+  pub after : lex_state < last
   pub within : last < length roles
 
 semicolon_after : (roles : List Role) (start last : ℕ) → IsFirstSemicolon roles (start + 1) last → EndsAfter roles start last
@@ -138,8 +138,8 @@ no_outline_and_stop roles elements at outline stops =
     omega (arith, stops.within)
 
 pub no_outline_and_fault : (text : List ℕ) (tokens : List Token) (elements : List Element) (fault : UnitFault) → IsOutline (roles_of text tokens) elements → HasUnitFault text tokens fault → ⊥
-no_outline_and_fault text tokens elements (NotUnit place) outline has = no_outline_and_stop (roles_of text tokens) elements has.0 outline (no_unit_stops (roles_of text tokens) has.0 has.1)
-no_outline_and_fault text tokens elements (NotEnded place) outline has = no_outline_and_stop (roles_of text tokens) elements has.0 outline (unended_stops (roles_of text tokens) has.0 has.1)
+no_outline_and_fault text tokens elements (NotUnit lex_state) outline has = no_outline_and_stop (roles_of text tokens) elements has.0 outline (no_unit_stops (roles_of text tokens) has.0 has.1)
+no_outline_and_fault text tokens elements (NotEnded lex_state) outline has = no_outline_and_stop (roles_of text tokens) elements has.0 outline (unended_stops (roles_of text tokens) has.0 has.1)
 
 pub one_unit_fault : (text : List ℕ) (tokens : List Token) (a b : UnitFault) → HasUnitFault text tokens a → HasUnitFault text tokens b → a ≡ b
 one_unit_fault text tokens (NotUnit p) (NotUnit q) left right =

@@ -1,8 +1,8 @@
--- Whether a piece of text has a form can be decided.
+-- Whether a lexical element of text has a form can be decided.
 use Rattle.std.proofs.Common.{◌≡◌, ◌≢◌, ℕ, zero, suc, ◌+◌, ◌-◌, ◌<◌, ◌≤◌, Bool, true, false, not, List, slice_index, subst, inl, inr, ⊎_elim, arith}
 use Rattle.std.proofs.str.Laws.{order}
 use Rattle.base.specs.declared.lexical.TokenKind.TheVariants.{Word, Extended, Number, Str, Char, Tick, Symbol, High}
-use Rattle.vhdl_spec.specs.Tokens.{Row, byte_order_mark, blank, line_comment, block_comment, tool_directive, token, quote, backslash, star, slash, is_line_end, EachByte, EndsComment, IsBlockComment, Inside, nothing, byte, pair, IsMarked, HasForm, is_word_byte, is_number_byte}
+use Rattle.vhdl_spec.specs.Tokens.{Row, byte_order_mark, blank, line_comment, block_comment, tool_directive, token, quote, backslash, star, slash, is_line_end, EachByte, EndsComment, IsBlockComment, Inside, nothing, byte, pair, IsDelimited, HasForm, is_word_byte, is_number_byte}
 use Rattle.vhdl_spec.proofs.Search.{Decided, both, denied, same_bool, same_number, at_most}
 
 -- a fact about each number from one up to another
@@ -41,64 +41,64 @@ decide_block text start end =
     none (subst (EndsComment text) is block.closes, (subst (λ (n : ℕ). start + 2 ≤ n) is block.after, (subst (λ (n : ℕ). (at : ℕ) → start + 2 ≤ at → at < n → EndsComment text at → ⊥) is block.next, subst (λ (n : ℕ). end ≡ n + 2) is block.up_to)))))
     (both ends (both after (both next up_to)))
 
--- the last step to an offset inside marks
-pub data LastStep (mark : ℕ) (text : List ℕ) (start end : ℕ) : Type 0 where
-  none_yet : end ≡ start → LastStep mark text start end
-  last_byte : (at : ℕ) → Inside mark text start at → slice_index text at ≢ mark → is_line_end (slice_index text at) ≡ false → end ≡ at + 1 → LastStep mark text start end
-  last_pair : (at : ℕ) → Inside mark text start at → slice_index text at ≡ mark → slice_index text (at + 1) ≡ mark → end ≡ at + 2 → LastStep mark text start end
+-- the last step to an offset inside delimiters
+pub data LastStep (delimiter : ℕ) (text : List ℕ) (start end : ℕ) : Type 0 where
+  none_yet : end ≡ start → LastStep delimiter text start end
+  last_byte : (at : ℕ) → Inside delimiter text start at → slice_index text at ≢ delimiter → is_line_end (slice_index text at) ≡ false → end ≡ at + 1 → LastStep delimiter text start end
+  last_pair : (at : ℕ) → Inside delimiter text start at → slice_index text at ≡ delimiter → slice_index text (at + 1) ≡ delimiter → end ≡ at + 2 → LastStep delimiter text start end
 
-pub last_step : {mark : ℕ} {text : List ℕ} {start end : ℕ} → Inside mark text start end → LastStep mark text start end
+pub last_step : {delimiter : ℕ} {text : List ℕ} {start end : ℕ} → Inside delimiter text start end → LastStep delimiter text start end
 last_step (nothing is) = none_yet is
 last_step (byte {at = at} inside other in_line up_to) = last_byte at inside other in_line up_to
 last_step (pair {at = at} inside first second up_to) = last_pair at inside first second up_to
 
 -- what a step of one byte, or of two, needs
 abbrev ByteStep : ℕ → List ℕ → ℕ → ℕ → ℕ → Type 0
-ByteStep mark text start end at = Inside mark text start at × ((slice_index text at ≢ mark) × ((is_line_end (slice_index text at) ≡ false) × (end ≡ at + 1)))
+ByteStep delimiter text start end at = Inside delimiter text start at × ((slice_index text at ≢ delimiter) × ((is_line_end (slice_index text at) ≡ false) × (end ≡ at + 1)))
 
 abbrev PairStep : ℕ → List ℕ → ℕ → ℕ → ℕ → Type 0
-PairStep mark text start end at = Inside mark text start at × ((slice_index text at ≡ mark) × ((slice_index text (at + 1) ≡ mark) × (end ≡ at + 2)))
+PairStep delimiter text start end at = Inside delimiter text start at × ((slice_index text at ≡ delimiter) × ((slice_index text (at + 1) ≡ delimiter) × (end ≡ at + 2)))
 
-step_or_none : (mark : ℕ) (text : List ℕ) (start end : ℕ) → Decided (end ≡ start) → Decided (ByteStep mark text start end (end - 1)) → Decided (PairStep mark text start end (end - 2)) → Decided (Inside mark text start end)
-step_or_none mark text start end (inl is) by_byte by_pair = inl (nothing is)
-step_or_none mark text start end (inr other) (inl (inside, (not_mark, (in_line, up_to)))) by_pair = inl (byte inside not_mark in_line up_to)
-step_or_none mark text start end (inr other) (inr no_byte) (inl (inside, (first, (second, up_to)))) = inl (pair inside first second up_to)
-step_or_none mark text start end (inr other) (inr no_byte) (inr no_pair) =
+step_or_none : (delimiter : ℕ) (text : List ℕ) (start end : ℕ) → Decided (end ≡ start) → Decided (ByteStep delimiter text start end (end - 1)) → Decided (PairStep delimiter text start end (end - 2)) → Decided (Inside delimiter text start end)
+step_or_none delimiter text start end (inl is) by_byte by_pair = inl (nothing is)
+step_or_none delimiter text start end (inr other) (inl (inside, (not_delimiter, (in_line, up_to)))) by_pair = inl (byte inside not_delimiter in_line up_to)
+step_or_none delimiter text start end (inr other) (inr no_byte) (inl (inside, (first, (second, up_to)))) = inl (pair inside first second up_to)
+step_or_none delimiter text start end (inr other) (inr no_byte) (inr no_pair) =
     inr (λ inside. elim (last_step inside) [
       | none_yet is ↦ other is
-      | last_byte at before not_mark in_line up_to ↦ let is : at ≡ end - 1 = omega arith in no_byte (subst (ByteStep mark text start end) is (before, (not_mark, (in_line, up_to))))
-      | last_pair at before first second up_to ↦ let is : at ≡ end - 2 = omega arith in no_pair (subst (PairStep mark text start end) is (before, (first, (second, up_to))))
+      | last_byte at before not_delimiter in_line up_to ↦ let is : at ≡ end - 1 = omega arith in no_byte (subst (ByteStep delimiter text start end) is (before, (not_delimiter, (in_line, up_to))))
+      | last_pair at before first second up_to ↦ let is : at ≡ end - 2 = omega arith in no_pair (subst (PairStep delimiter text start end) is (before, (first, (second, up_to))))
     ])
 
-decide_inside : (mark : ℕ) (text : List ℕ) (start bound end : ℕ) → end < bound → Decided (Inside mark text start end)
-decide_inside mark text start zero end below = absurd (omega arith)
-decide_inside mark text start (suc bound) end below =
-    let by_byte : Decided (ByteStep mark text start end (end - 1)) =
+decide_inside : (delimiter : ℕ) (text : List ℕ) (start bound end : ℕ) → end < bound → Decided (Inside delimiter text start end)
+decide_inside delimiter text start zero end below = absurd (omega arith)
+decide_inside delimiter text start (suc bound) end below =
+    let by_byte : Decided (ByteStep delimiter text start end (end - 1)) =
     ⊎_elim
-    (λ (h : end ≡ (end - 1) + 1). both (decide_inside mark text start bound (end - 1) (omega arith)) (both (denied (same_number (slice_index text (end - 1)) mark)) (both (same_bool (is_line_end (slice_index text (end - 1))) false) (inl h))))
+    (λ (h : end ≡ (end - 1) + 1). both (decide_inside delimiter text start bound (end - 1) (omega arith)) (both (denied (same_number (slice_index text (end - 1)) delimiter)) (both (same_bool (is_line_end (slice_index text (end - 1))) false) (inl h))))
     (λ h. inr (λ p. h p.1.1.1))
     (same_number end ((end - 1) + 1))
     in
-    let by_pair : Decided (PairStep mark text start end (end - 2)) =
+    let by_pair : Decided (PairStep delimiter text start end (end - 2)) =
     ⊎_elim
-    (λ (h : end ≡ (end - 2) + 2). both (decide_inside mark text start bound (end - 2) (omega arith)) (both (same_number (slice_index text (end - 2)) mark) (both (same_number (slice_index text (end - 2 + 1)) mark) (inl h))))
+    (λ (h : end ≡ (end - 2) + 2). both (decide_inside delimiter text start bound (end - 2) (omega arith)) (both (same_number (slice_index text (end - 2)) delimiter) (both (same_number (slice_index text (end - 2 + 1)) delimiter) (inl h))))
     (λ h. inr (λ p. h p.1.1.1))
     (same_number end ((end - 2) + 2))
     in
-    step_or_none mark text start end (same_number end start) by_byte by_pair
+    step_or_none delimiter text start end (same_number end start) by_byte by_pair
 
-abbrev MarkedParts : ℕ → List ℕ → ℕ → ℕ → ℕ → Type 0
-MarkedParts mark text start end close = Inside mark text (start + 1) close × ((slice_index text close ≡ mark) × (end ≡ close + 1))
+abbrev DelimitedParts : ℕ → List ℕ → ℕ → ℕ → ℕ → Type 0
+DelimitedParts delimiter text start end close = Inside delimiter text (start + 1) close × ((slice_index text close ≡ delimiter) × (end ≡ close + 1))
 
-decide_marked : (mark : ℕ) (text : List ℕ) (start end : ℕ) → Decided (IsMarked mark text start end)
-decide_marked mark text start end =
+decide_delimited : (delimiter : ℕ) (text : List ℕ) (start end : ℕ) → Decided (IsDelimited delimiter text start end)
+decide_delimited delimiter text start end =
     let close = end - 1 in
     ⊎_elim
-    (λ (p : MarkedParts mark text start end close). inl (record { close = close; inside = p.0; closes = p.1.0; up_to = p.1.1 }))
-    (λ none. inr (λ (marked : IsMarked mark text start end).
-    let is : marked.close ≡ close = omega (arith, marked.up_to) in
-    none (subst (MarkedParts mark text start end) is (marked.inside, (marked.closes, marked.up_to)))))
-    (both (decide_inside mark text (start + 1) (suc close) close (omega arith)) (both (same_number (slice_index text close) mark) (same_number end (close + 1))))
+    (λ (p : DelimitedParts delimiter text start end close). inl (record { close = close; inside = p.0; closes = p.1.0; up_to = p.1.1 }))
+    (λ none. inr (λ (delimited : IsDelimited delimiter text start end).
+    let is : delimited.close ≡ close = omega (arith, delimited.up_to) in
+    none (subst (DelimitedParts delimiter text start end) is (delimited.inside, (delimited.closes, delimited.up_to)))))
+    (both (decide_inside delimiter text (start + 1) (suc close) close (omega arith)) (both (same_number (slice_index text close) delimiter) (same_number end (close + 1))))
 
 pub decide_form : (row : Row) (text : List ℕ) (start end : ℕ) → Decided (HasForm row text start end)
 decide_form byte_order_mark text start end = same_number end (start + 3)
@@ -107,9 +107,9 @@ decide_form line_comment text start end = decide_each (λ byte. not (is_line_end
 decide_form block_comment text start end = decide_block text start end
 decide_form tool_directive text start end = decide_each (λ byte. not (is_line_end byte)) text start end
 decide_form (token Word) text start end = decide_each is_word_byte text start end
-decide_form (token Extended) text start end = decide_marked backslash text start end
+decide_form (token Extended) text start end = decide_delimited backslash text start end
 decide_form (token Number) text start end = decide_each is_number_byte text start end
-decide_form (token Str) text start end = decide_marked quote text start end
+decide_form (token Str) text start end = decide_delimited quote text start end
 decide_form (token Char) text start end = same_number end (start + 3)
 decide_form (token Tick) text start end = same_number end (start + 1)
 decide_form (token Symbol) text start end = same_number end (start + 1)

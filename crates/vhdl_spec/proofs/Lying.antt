@@ -2,7 +2,7 @@
 use Rattle.std.proofs.Common.{◌≡◌, ℕ, zero, suc, ◌+◌, ◌<◌, ◌≤◌, List, [], ◌∷◌, ◌++◌, length, sym, ap, subst, arith}
 use Rattle.base.specs.declared.lexical.Token.{Token}
 use Rattle.base.specs.declared.lexical.Tokens.{Tokens}
-use Rattle.vhdl_spec.specs.Tokens.{Row, byte_order_mark, blank, line_comment, block_comment, tool_directive, token, Piece, Place, Leads, place_after, text_start, token_of, tokens_of}
+use Rattle.vhdl_spec.specs.Tokens.{Row, byte_order_mark, blank, line_comment, block_comment, tool_directive, token, LexicalElement, LexState, Leads, lex_state_after, text_start, token_of, tokens_of}
 use Rattle.vhdl_spec.specs.Units.{token_at, AreTokensOf}
 
 -- each token lies in a text of this length
@@ -24,12 +24,12 @@ lie_row size (token kind) start end rest some within later = lie_more size (reco
 no_token : (size : ℕ) → Lie size []
 no_token size at within = absurd (omega arith)
 
-lie_from : (text : List ℕ) (place : Place) (pieces : List Piece) (end : Place) → Leads text place pieces end → Lie (length text) (tokens_of pieces)
-lie_from text place [] end leads = no_token (length text)
-lie_from text place (piece ∷ pieces) end leads =
-    let starts : piece.start ≡ place.at = leads.0.starts in
-    let some : place.at < piece.end = leads.0.longest.some in
-    lie_row (length text) piece.row piece.start piece.end (tokens_of pieces) (omega arith) leads.0.longest.within (lie_from text (place_after place piece) pieces end leads.1)
+lie_from : (text : List ℕ) (lex_state : LexState) (lexical_elements : List LexicalElement) (end : LexState) → Leads text lex_state lexical_elements end → Lie (length text) (tokens_of lexical_elements)
+lie_from text lex_state [] end leads = no_token (length text)
+lie_from text lex_state (lexical_element ∷ lexical_elements) end leads =
+    let starts : lexical_element.start ≡ lex_state.at = leads.0.starts in
+    let some : lex_state.at < lexical_element.end = leads.0.longest.some in
+    lie_row (length text) lexical_element.row lexical_element.start lexical_element.end (tokens_of lexical_elements) (omega arith) leads.0.longest.within (lie_from text (lex_state_after lex_state lexical_element) lexical_elements end leads.1)
 
 few_row : (row : Row) (start end : ℕ) (rest : List Token) → length (token_of row start end ++ rest) ≤ suc (length rest)
 few_row byte_order_mark start end rest = omega arith
@@ -39,12 +39,12 @@ few_row block_comment start end rest = omega arith
 few_row tool_directive start end rest = omega arith
 few_row (token kind) start end rest = omega arith
 
-few_from : (text : List ℕ) (place : Place) (pieces : List Piece) (end : Place) → Leads text place pieces end → place.at + length (tokens_of pieces) ≤ end.at
-few_from text place [] end leads = let same : place.at ≡ end.at = ap (λ (p : Place). p.at) leads in omega arith
-few_from text place (piece ∷ pieces) end leads =
-    let some : place.at < piece.end = leads.0.longest.some in
-    let rest = few_from text (place_after place piece) pieces end leads.1 in
-    let row = few_row piece.row piece.start piece.end (tokens_of pieces) in
+few_from : (text : List ℕ) (lex_state : LexState) (lexical_elements : List LexicalElement) (end : LexState) → Leads text lex_state lexical_elements end → lex_state.at + length (tokens_of lexical_elements) ≤ end.at
+few_from text lex_state [] end leads = let same : lex_state.at ≡ end.at = ap (λ (p : LexState). p.at) leads in omega arith
+few_from text lex_state (lexical_element ∷ lexical_elements) end leads =
+    let some : lex_state.at < lexical_element.end = leads.0.longest.some in
+    let rest = few_from text (lex_state_after lex_state lexical_element) lexical_elements end leads.1 in
+    let row = few_row lexical_element.row lexical_element.start lexical_element.end (tokens_of lexical_elements) in
     omega arith
 
 pub tokens_lie : (text : List ℕ) (tokens : Tokens) → AreTokensOf text tokens → Lie (length text) tokens.list

@@ -95,13 +95,13 @@ module _ (roles : List Role) where
 
   -- a token with a property, or none
   record Some (P : ℕ → Type 0) : Type 0 where
-    place : ℕ
-    holds : P place
+    token_index : ℕ
+    holds : P token_index
 
   some_semicolon : (start : ℕ) → Some (IsFirstSemicolon roles start) ⊎ ((at : ℕ) → IsFirstSemicolon roles start at → ⊥)
   some_semicolon start =
       ⊎_elim
-      (λ (found : Largest (IsFirstSemicolon roles start) (length roles)). inl (record { place = found.is; holds = found.holds }))
+      (λ (found : Largest (IsFirstSemicolon roles start) (length roles)). inl (record { token_index = found.is; holds = found.holds }))
       (λ none. inr (λ at is. let within : at < length roles = in_file roles at (λ other. let there : role_at roles at ≡ Semicolon = is.there in cc) in none at (omega arith) is))
       (largest (IsFirstSemicolon roles start) (first_semicolon start) (length roles))
 
@@ -111,7 +111,7 @@ module _ (roles : List Role) where
   some_close : (start : ℕ) → Some (CloseAt start) ⊎ ((close : ℕ) → CloseAt start close → ⊥)
   some_close start =
       ⊎_elim
-      (λ (found : Largest (CloseAt start) (length roles)). inl (record { place = found.is; holds = found.holds }))
+      (λ (found : Largest (CloseAt start) (length roles)). inl (record { token_index = found.is; holds = found.holds }))
       (λ none. inr (λ close is. let within : close < length roles = in_file roles close (λ other. let there = is.1.word in cc) in none close (omega arith) is))
       (largest (CloseAt start) (λ close. both (decide_items roles start false start close) (plain_end roles close)) (length roles))
 
@@ -119,11 +119,11 @@ module _ (roles : List Role) where
   end_by start (inr none) = inr (λ last part. none part.close (part.inside, part.ends))
   end_by start (inl close) =
       ⊎_elim
-      (λ (semicolon : Some (IsFirstSemicolon roles (close.place + 1))). inl (record { place = semicolon.place; holds = record { close = close.place; inside = close.holds.0; ends = close.holds.1; semicolon = semicolon.holds } }))
+      (λ (semicolon : Some (IsFirstSemicolon roles (close.token_index + 1))). inl (record { token_index = semicolon.token_index; holds = record { close = close.token_index; inside = close.holds.0; ends = close.holds.1; semicolon = semicolon.holds } }))
       (λ none. inr (λ last part.
-      let same : part.close ≡ close.place = one_close part.inside part.ends close.holds.0 close.holds.1 in
+      let same : part.close ≡ close.token_index = one_close part.inside part.ends close.holds.0 close.holds.1 in
       none last (subst (λ (n : ℕ). IsFirstSemicolon roles (n + 1) last) same part.semicolon)))
-      (some_semicolon (close.place + 1))
+      (some_semicolon (close.token_index + 1))
 
   some_end : (start : ℕ) → Some (IsEndPart roles start) ⊎ ((last : ℕ) → IsEndPart roles start last → ⊥)
   some_end start = end_by start (some_close start)
@@ -141,7 +141,7 @@ module _ (roles : List Role) where
   some_owner : (start : ℕ) → Some (IsOwner roles start) ⊎ ((before : ℕ) → IsOwner roles start before → ⊥)
   some_owner start =
       ⊎_elim
-      (λ (found : Largest (IsOwner roles start) (length roles)). inl (record { place = found.is; holds = found.holds }))
+      (λ (found : Largest (IsOwner roles start) (length roles)). inl (record { token_index = found.is; holds = found.holds }))
       (λ none. inr (λ before is. let within : start + 2 * before + 1 < length roles = in_file roles (start + 2 * before + 1) (λ other. let there : role_at roles (start + 2 * before + 1) ≡ Is = is.is_after in cc) in none before (omega arith) is))
       (largest (IsOwner roles start) (is_owner start) (length roles))
 
@@ -189,20 +189,20 @@ module _ (roles : List Role) (at : ℕ) where
   owned_by kind is (inr none) = no_unit (λ (start : Begins roles at). let owner : (before : ℕ) × IsOwner roles (at + 3) before = subst (BeginsAs roles at) is start in none owner.0 owner.1)
   owned_by kind is (inl owner) =
       ⊎_elim
-      (λ (end : Some roles (IsEndPart roles (at + 5 + 2 * owner.place))). stands (owned kind owner.place end.place) (is, owner.holds, end.holds))
-      (λ none. unended (subst (BeginsAs roles at) (sym is) (owner.place, owner.holds)) (no_owned kind owner.place is owner.holds none))
-      (some_end roles (at + 5 + 2 * owner.place))
+      (λ (end : Some roles (IsEndPart roles (at + 5 + 2 * owner.token_index))). stands (owned kind owner.token_index end.token_index) (is, owner.holds, end.holds))
+      (λ none. unended (subst (BeginsAs roles at) (sym is) (owner.token_index, owner.holds)) (no_owned kind owner.token_index is owner.holds none))
+      (some_end roles (at + 5 + 2 * owner.token_index))
 
   stand_by : (beginning : Beginning) → beginning_at roles at ≡ beginning → Stand roles at
   stand_by begins.Nothing is = no_unit (λ (start : Begins roles at). subst (BeginsAs roles at) is start)
   stand_by begins.Item is =
       ⊎_elim
-      (λ (end : Some roles (IsFirstSemicolon roles (at + 1))). stands (item end.place) (is, end.holds))
+      (λ (end : Some roles (IsFirstSemicolon roles (at + 1))). stands (item end.token_index) (is, end.holds))
       (λ none. unended (subst (BeginsAs roles at) (sym is) tt) (no_item is none))
       (some_semicolon roles (at + 1))
   stand_by (begins.Plain kind) is =
       ⊎_elim
-      (λ (end : Some roles (EndsPlain kind roles at)). stands (plain kind end.place) (is, end.holds))
+      (λ (end : Some roles (EndsPlain kind roles at)). stands (plain kind end.token_index) (is, end.holds))
       (λ none. unended (subst (BeginsAs roles at) (sym is) tt) (no_plain kind is none))
       (some_plain_end roles kind at)
   stand_by (begins.Owned kind) is = owned_by kind is (some_owner roles (at + 3))

@@ -1,4 +1,4 @@
--- A walk that passes over places, one place or one walk further.
+-- A walk that passes over indices, one place or one walk further.
 use Rattle.std.proofs.Common.{◌≡◌, ℕ, ◌+◌, ◌<◌, ◌≤◌, ◌||◌, Bool, true, false, inl, inr, refl, sym, ◌∙◌, ap, arith}
 use Rattle.std.proofs.lemmas.Bool.{cases_lt}
 use Rattle.vhdl_spec.specs.Passing.{HasPassedOver, NonePasses}

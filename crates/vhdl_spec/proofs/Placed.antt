@@ -12,7 +12,7 @@ use Rattle.base.specs.declared.design.Role.TheVariants.{Library, Use, Context, E
 use Rattle.base.specs.declared.design.Beginning.{Beginning}
 use Rattle.base.specs.declared.design.Beginning.TheVariants as begins
 use Rattle.vhdl_spec.specs.Units.{role_at, role_of, roles_of, name_of, name_token, beginning_of, beginning_at, EndsPlain, Element, item, plain, owned, IsElement, Follow, IsOutline, units_from, units_of}
-use Rattle.vhdl_spec.specs.UnitPlaces.{keyword_of, AreContextItems, IsOwnedBy, IsPlaced, FollowOn}
+use Rattle.vhdl_spec.specs.UnitIndices.{keyword_of, AreContextItems, IsOwnedBy, IsPlaced, FollowOn}
 use Rattle.vhdl_spec.proofs.Files.{EndsAfter, plain_after, end_part_after, element_after}
 
 -- ## What the first four roles of a unit are

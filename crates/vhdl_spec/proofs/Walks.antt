@@ -1,11 +1,11 @@
--- A walk over the tokens of a text: one place more, and places that fail a test are passed over.
+-- A walk over the tokens of a text: one place more, and indices that fail a test are passed over.
 use Rattle.std.proofs.Common.{◌≡◌, ℕ, zero, suc, ◌+◌, ◌-◌, ◌<◌, ◌≤◌, Bool, true, false, cond, List, [], ◌∷◌, ◌++◌, Option, Some, None, map, filter, refl, sym, ◌∙◌, ap, append_assoc, append-nil, arith}
 use Rattle.std.specs.List.{range_with_len, find}
 use Rattle.std.proofs.lemmas.List.{map-append}
 use Rattle.std.proofs.lemmas.List.Elements.{filter-append}
 use Rattle.std.proofs.lemmas.List.Folds.{find-append}
 use Rattle.std.specs.Option.{option_or}
-use Rattle.vhdl_spec.specs.References.{places}
+use Rattle.vhdl_spec.specs.References.{indices}
 
 range_more : (start n at : ℕ) → start + n ≡ at → range_with_len start (suc n) ≡ range_with_len start n ++ at ∷ []
 range_more start zero at is = let same : start ≡ at = omega arith in ap (λ (k : ℕ). k ∷ []) same
@@ -19,37 +19,37 @@ range_up_to start at ordered =
 range_none : (start : ℕ) → range_with_len start (start - start) ≡ []
 range_none start = let none : start - start ≡ 0 = omega arith in ap (range_with_len start) none
 
-pub places_none : (test : ℕ → Bool) (start : ℕ) → places test start start ≡ []
-places_none test start = ap (filter test) (range_none start)
+pub indices_none : (test : ℕ → Bool) (start : ℕ) → indices test start start ≡ []
+indices_none test start = ap (filter test) (range_none start)
 
-pub places_more : (test : ℕ → Bool) (start at : ℕ) → start ≤ at → places test start (at + 1) ≡ places test start at ++ cond (test at) (at ∷ []) []
-places_more test start at ordered = ap (filter test) (range_up_to start at ordered) ∙ filter-append test (range_with_len start (at - start)) (at ∷ [])
+pub indices_more : (test : ℕ → Bool) (start at : ℕ) → start ≤ at → indices test start (at + 1) ≡ indices test start at ++ cond (test at) (at ∷ []) []
+indices_more test start at ordered = ap (filter test) (range_up_to start at ordered) ∙ filter-append test (range_with_len start (at - start)) (at ∷ [])
 
 map_cond : {X : Type 0} (f : ℕ → X) (test : Bool) (at : ℕ) → map f (cond test (at ∷ []) []) ≡ cond test (f at ∷ []) []
 map_cond f true at = refl
 map_cond f false at = refl
 
--- what a walk over places has found after one place more
-pub walk_more : {X : Type 0} (f : ℕ → X) (test : ℕ → Bool) (start at : ℕ) (done items more : List X) → start ≤ at → items ≡ done ++ map f (places test start at) → more ≡ items ++ cond (test at) (f at ∷ []) [] → more ≡ done ++ map f (places test start (at + 1))
+-- what a walk over indices has found after one place more
+pub walk_more : {X : Type 0} (f : ℕ → X) (test : ℕ → Bool) (start at : ℕ) (done items more : List X) → start ≤ at → items ≡ done ++ map f (indices test start at) → more ≡ items ++ cond (test at) (f at ∷ []) [] → more ≡ done ++ map f (indices test start (at + 1))
 walk_more {X} f test start at done items more ordered so_far adds =
-    let longer : map f (places test start (at + 1)) ≡ map f (places test start at) ++ cond (test at) (f at ∷ []) [] = ap (map f) (places_more test start at ordered) ∙ map-append f (places test start at) (cond (test at) (at ∷ []) []) ∙ ap (λ (xs : List X). map f (places test start at) ++ xs) (map_cond f (test at) at) in
-    adds ∙ ap (λ (xs : List X). xs ++ cond (test at) (f at ∷ []) []) so_far ∙ append_assoc done (map f (places test start at)) (cond (test at) (f at ∷ []) []) ∙ ap (λ (xs : List X). done ++ xs) (sym longer)
+    let longer : map f (indices test start (at + 1)) ≡ map f (indices test start at) ++ cond (test at) (f at ∷ []) [] = ap (map f) (indices_more test start at ordered) ∙ map-append f (indices test start at) (cond (test at) (at ∷ []) []) ∙ ap (λ (xs : List X). map f (indices test start at) ++ xs) (map_cond f (test at) at) in
+    adds ∙ ap (λ (xs : List X). xs ++ cond (test at) (f at ∷ []) []) so_far ∙ append_assoc done (map f (indices test start at)) (cond (test at) (f at ∷ []) []) ∙ ap (λ (xs : List X). done ++ xs) (sym longer)
 
--- places that fail a test may be passed over
-skip_some : (test : ℕ → Bool) (start at n : ℕ) → start ≤ at → ((k : ℕ) → at ≤ k → k < at + n → test k ≡ false) → places test start (at + n) ≡ places test start at
-skip_some test start at zero ordered none = let same : at + 0 ≡ at = omega arith in ap (places test start) same
+-- indices that fail a test may be passed over
+skip_some : (test : ℕ → Bool) (start at n : ℕ) → start ≤ at → ((k : ℕ) → at ≤ k → k < at + n → test k ≡ false) → indices test start (at + n) ≡ indices test start at
+skip_some test start at zero ordered none = let same : at + 0 ≡ at = omega arith in ap (indices test start) same
 skip_some test start at (suc n) ordered none =
     let is : at + suc n ≡ (at + n) + 1 = omega arith in
     let last : test (at + n) ≡ false = none (at + n) (omega arith) (omega arith) in
-    ap (places test start) is ∙ places_more test start (at + n) (omega (arith, ordered))
-    ∙ ap (λ (b : Bool). places test start (at + n) ++ cond b ((at + n) ∷ []) []) last
-    ∙ append-nil (places test start (at + n))
+    ap (indices test start) is ∙ indices_more test start (at + n) (omega (arith, ordered))
+    ∙ ap (λ (b : Bool). indices test start (at + n) ++ cond b ((at + n) ∷ []) []) last
+    ∙ append-nil (indices test start (at + n))
     ∙ skip_some test start at n ordered (λ k reach below. none k reach (omega (arith, below)))
 
-pub places_skip : (test : ℕ → Bool) (start at next : ℕ) → start ≤ at → at ≤ next → ((k : ℕ) → at ≤ k → k < next → test k ≡ false) → places test start next ≡ places test start at
-places_skip test start at next ordered later none =
+pub indices_skip : (test : ℕ → Bool) (start at next : ℕ) → start ≤ at → at ≤ next → ((k : ℕ) → at ≤ k → k < next → test k ≡ false) → indices test start next ≡ indices test start at
+indices_skip test start at next ordered later none =
     let is : next ≡ at + (next - at) = omega (arith, later) in
-    ap (places test start) is ∙ skip_some test start at (next - at) ordered (λ k reach below. none k reach (omega (arith, later, below)))
+    ap (indices test start) is ∙ skip_some test start at (next - at) ordered (λ k reach below. none k reach (omega (arith, later, below)))
 
 -- ## The first place
 

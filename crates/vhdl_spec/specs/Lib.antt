@@ -3,7 +3,7 @@ pub mod Words
 pub mod Tokens
 pub mod Units
 pub mod Scans
-pub mod UnitPlaces
+pub mod UnitIndices
 pub mod Passing
 pub mod References
 pub mod Visibility

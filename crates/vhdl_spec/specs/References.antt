@@ -1,5 +1,5 @@
 -- The references of a design unit to names in libraries (IEEE Std 1076-2008, clauses 3.3, 3.4, 4.8 and 13, in this
--- project's lenient profile). A reference is a place among the tokens of a file; whether one is there, and of what kind,
+-- project's lenient profile). A reference is an index among the tokens of a file; whether one is there, and of what kind,
 -- is read off the tokens around it.
 use Rattle.std.specs.Prelude.{◌≡◌, ◌≢◌, ℕ, zero, suc, ◌+◌, ◌-◌, ◌<◌, ◌≤◌, ◌⊎◌, IsTrue, Bool, true, false, ◌&&◌, ◌||◌, not, nat_lt, if◌then◌else◌, Option, List, [], ◌∷◌, ◌++◌, length, map, filter, take, reverse, codes}
 use Rattle.std.specs.List.{find, list_any, range_with_len, take_while}
@@ -15,7 +15,7 @@ use Rattle.base.specs.declared.design.Unit.{Unit as DesignUnit}
 use Rattle.base.specs.declared.refs.Ref.{Ref}
 use Rattle.vhdl_spec.specs.Units.{is_opening, is_closing, role_at, roles_of, name_of}
 
--- ## Tokens around a place
+-- ## Tokens around an index
 
 -- the role of the token before
 abbrev pub role_before : List Role → ℕ → Role
@@ -33,13 +33,13 @@ ends_item Semicolon = true
 ends_item Is = true
 ends_item _ = false
 
--- the roles of the tokens before a place, nearest first, back to the first that passes a test
+-- the roles of the tokens before an index, nearest first, back to the first that passes a test
 abbrev pub back_to : (Role → Bool) → List Role → ℕ → List Role
 back_to ends roles at = take_while (λ role. not (ends role)) (reverse (take at roles))
 
 -- the token numbers from one up to another that pass a test, rising
-abbrev pub places : (ℕ → Bool) → ℕ → ℕ → List ℕ
-places test start end = filter test (range_with_len start (end - start))
+abbrev pub indices : (ℕ → Bool) → ℕ → ℕ → List ℕ
+indices test start end = filter test (range_with_len start (end - start))
 
 -- ## References by name
 
@@ -73,11 +73,11 @@ abbrev pub is_dot : Role → Bool
 is_dot Dot = true
 is_dot _ = false
 
--- a reference is at the place: NAME `.` NAME, and no `.` before them (8.3)
+-- a reference is at the index: NAME `.` NAME, and no `.` before them (8.3)
 abbrev pub is_reference : List Role → ℕ → Bool
 is_reference roles at = is_name (role_at roles at) && is_dot (role_at roles (at + 1)) && is_name (role_at roles (at + 2)) && not (is_dot (role_before roles at))
 
--- the place is between a `use` or a `context` and its `;`
+-- the index is between a `use` or a `context` and its `;`
 abbrev pub is_in_name_list : List Role → ℕ → Bool
 is_in_name_list roles at = list_any lists_names (back_to is_semicolon roles at)
 
@@ -128,13 +128,13 @@ architecture_at text tokens kind at =
     else (if is_configuration kind && has_block (roles_of text tokens) at then Given (name_of text tokens (at + 5))
     else Nothing)
 
--- the reference at a place, in a unit of a kind
+-- the reference at an index, in a unit of a kind
 abbrev pub ref_at : List ℕ → List Token → UnitKind → ℕ → Ref
 ref_at text tokens kind at = record { library = name_of text tokens at; name = name_of text tokens (at + 2); architecture = architecture_at text tokens kind at; strict = is_strict (roles_of text tokens) at; at = at }
 
 -- the references by name among all tokens of a unit, in order
 abbrev pub named_refs : List ℕ → List Token → DesignUnit → List Ref
-named_refs text tokens unit = map (ref_at text tokens unit.kind) (places (is_reference (roles_of text tokens)) unit.lead unit.last)
+named_refs text tokens unit = map (ref_at text tokens unit.kind) (indices (is_reference (roles_of text tokens)) unit.lead unit.last)
 
 -- ## References by structure
 
@@ -208,13 +208,13 @@ is_context_ref roles at = is_reference roles at && (is_context_word (role_before
 
 -- the references of a unit to context declarations, whose libraries these hand on
 abbrev pub context_refs : List ℕ → List Token → DesignUnit → List Ref
-context_refs text tokens unit = map (ref_at text tokens unit.kind) (places (is_context_ref (roles_of text tokens)) unit.lead (context_end unit))
+context_refs text tokens unit = map (ref_at text tokens unit.kind) (indices (is_context_ref (roles_of text tokens)) unit.lead (context_end unit))
 
--- the token that begins the clause of a place: the one after the nearest `;` before it
+-- the token that begins the clause of an index: the one after the nearest `;` before it
 abbrev pub clause_start : List Role → ℕ → ℕ
 clause_start roles at = at - length (back_to is_semicolon roles at)
 
--- the place is between `library` and its `;` (13.2). Before the unit's keyword `library` begins the clause; inside a
+-- the index is between `library` and its `;` (13.2). Before the unit's keyword `library` begins the clause; inside a
 -- context declaration it may be anywhere
 abbrev pub is_in_library_clause : List Role → ℕ → ℕ → Bool
 is_in_library_clause roles first at = if nat_lt at first then is_library_word (role_at roles (clause_start roles at)) else list_any is_library_word (back_to is_semicolon roles at)
@@ -225,7 +225,7 @@ is_library_name roles first at = is_name (role_at roles at) && is_in_library_cla
 
 -- the names of the library clauses of a unit
 abbrev pub library_names : List ℕ → List Token → DesignUnit → List (List ℕ)
-library_names text tokens unit = map (name_of text tokens) (places (is_library_name (roles_of text tokens) unit.first) unit.lead (context_end unit))
+library_names text tokens unit = map (name_of text tokens) (indices (is_library_name (roles_of text tokens) unit.first) unit.lead (context_end unit))
 
 -- ## `use L.all`
 
@@ -238,11 +238,11 @@ is_all_word _ = false
 abbrev pub is_all_of : List Role → ℕ → Bool
 is_all_of roles at = is_name (role_at roles at) && is_dot (role_at roles (at + 1)) && is_all_word (role_at roles (at + 2))
 
--- the place is between a `use` and its `;`
+-- the index is between a `use` and its `;`
 abbrev pub is_in_use_list : List Role → ℕ → Bool
 is_in_use_list roles at = list_any is_use_word (back_to is_semicolon roles at)
 
--- the place is after `use`, or after a comma of what is listed there: `use a.b, c.d;` (12.4)
+-- the index is after `use`, or after a comma of what is listed there: `use a.b, c.d;` (12.4)
 abbrev pub is_used : List Role → ℕ → Bool
 is_used roles at = is_use_word (role_before roles at) || (is_comma (role_before roles at) && is_in_use_list roles at)
 
@@ -252,18 +252,18 @@ is_use_of_all roles at = is_all_of roles at && is_used roles at
 
 -- the token numbers of the L of each `L.all` that a unit uses, rising
 abbrev pub uses_of_all : List Role → DesignUnit → List ℕ
-uses_of_all roles unit = places (is_use_of_all roles) unit.lead unit.last
+uses_of_all roles unit = indices (is_use_of_all roles) unit.lead unit.last
 
 -- ## What the way back to a token says
 
--- a token before a place passes a test, and no token from it up to the place ends the way back
+-- a token before an index passes a test, and no token from it up to the index ends the way back
 pub record IsBackAt (test ends : Role → Bool) (roles : List Role) (at : ℕ) : Type 0 where
-  pub place : ℕ
-  pub before : place < at
-  pub passes : IsTrue (test (role_at roles place))
-  pub open_since : (between : ℕ) → place ≤ between → between < at → ends (role_at roles between) ≡ false
+  pub token_index : ℕ
+  pub before : token_index < at
+  pub passes : IsTrue (test (role_at roles token_index))
+  pub open_since : (between : ℕ) → token_index ≤ between → between < at → ends (role_at roles between) ≡ false
 
--- The clause of a place begins at a token: the file does, or a `;` is before it, and none between both.
+-- The clause of an index begins at a token: the file does, or a `;` is before it, and none between both.
 pub record BeginsClauseOf (roles : List Role) (start at : ℕ) : Type 0 where
   pub within : start ≤ at
   pub after : (start ≡ 0) ⊎ ((before : ℕ) × (start ≡ before + 1) × (role_at roles before ≡ Semicolon))

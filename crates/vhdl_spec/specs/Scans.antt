@@ -3,7 +3,7 @@ use Rattle.std.specs.Prelude.{◌≡◌, ℕ, List, length, slice_get, Some}
 use Rattle.base.specs.declared.lexical.LexFault.{LexFault}
 use Rattle.base.specs.declared.design.Scan.{Scan}
 use Rattle.base.specs.declared.design.UnitFault.{UnitFault}
-use Rattle.vhdl_spec.specs.Tokens.{Piece, IsCut, HasFault, tokens_of}
+use Rattle.vhdl_spec.specs.Tokens.{LexicalElement, IsCut, HasFault, tokens_of}
 use Rattle.vhdl_spec.specs.Units.{Element, IsOutline, HasUnitFault, AreTokensOf, roles_of, units_of}
 
 -- the tokens are those of the text's cut, and the units those of the outline of these tokens
@@ -28,7 +28,7 @@ pub data Finding : Type 0 where
 abbrev pub IsFinding : List ℕ → Finding → Type 0
 IsFinding text (Clean scan) = IsScanOf text scan
 IsFinding text (Lexical fault) = HasFault text fault
-IsFinding text (Grammatical fault) = (pieces : List Piece) × IsCut text pieces × HasUnitFault text (tokens_of pieces) fault
+IsFinding text (Grammatical fault) = (lexical_elements : List LexicalElement) × IsCut text lexical_elements × HasUnitFault text (tokens_of lexical_elements) fault
 
 -- A scanner gives each text its finding. There is exactly one, so a clause for each scanner speaks of that.
 abbrev pub IsScanner : (List ℕ → Finding) → Type 0

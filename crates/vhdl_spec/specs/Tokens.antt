@@ -1,9 +1,9 @@
 -- The token cut of a text (IEEE Std 1076-2008, clause 15, in this project's profile).
 --
--- At each offset of the text the first row of a table that fits there says what form the next piece has, and the
--- longest piece of that form is right there. The cut of a text is the list of pieces, each right at its offset, from
+-- At each offset of the text the first row of a table that fits there says what form the next lexical element has, and the
+-- longest lexical element of that form is right there. The cut of a text is the list of lexical elements, each right at its offset, from
 -- its start to its end. Where a string, an extended identifier or a comment opens that has no end, there is a fault.
--- An offset is a number of bytes from the start, and a piece has the bytes from its start up to its end.
+-- An offset is a number of bytes from the start, and a lexical element has the bytes from its start up to its end.
 use Rattle.std.specs.Prelude.{◌≡◌, ◌≢◌, ℕ, ◌+◌, ◌<◌, ◌≤◌, Bool, true, false, not, ◌&&◌, ◌||◌, ◌==◌, if◌then◌else◌, nat_le, List, [], ◌∷◌, length, slice_index, slice_range, bytes_eq, codes, Option, Some, None, Result, Ok, Err}
 use Rattle.std.specs.List.{flat_map}
 use Rattle.std.specs.Char.{is_ascii_digit, is_ascii_alphabetic}
@@ -79,7 +79,7 @@ pub data Row : Type 0 where
   tool_directive : Row
   token : TokenKind → Row
 
--- a name that isn't reserved, `all`, or `subtype`, which after a tick names an attribute that is a type mark (clause 16.2)
+-- a name that isn't reserved, `all`, or `subtype`, which after a tick names an attribute that is a type delimiter (clause 16.2)
 abbrev pub word_takes_tick : List ℕ → Bool
 word_takes_tick word =
     not (is_reserved word) || bytes_eq (lower_case word) (codes "all") || bytes_eq (lower_case word) (codes "subtype")
@@ -124,7 +124,7 @@ abbrev pub row_at : List ℕ → Option Token → ℕ → Row
 row_at text last at =
     first_row (at == 0) (is_tick_at text last) (slice_index text at) (slice_index text (at + 1)) (slice_index text (at + 2))
 
--- ## The forms of pieces
+-- ## The forms of lexical elements
 
 -- each byte from one offset up to another passes a test
 abbrev pub EachByte : (ℕ → Bool) → List ℕ → ℕ → ℕ → Type 0
@@ -142,17 +142,17 @@ pub record IsBlockComment (text : List ℕ) (start end : ℕ) : Type 0 where
   pub next : (at : ℕ) → start + 2 ≤ at → at < close → EndsComment text at → ⊥
   pub up_to : end ≡ close + 2
 
--- on one line, bytes other than the mark, or pairs of it, from one offset up to another
-pub data Inside (mark : ℕ) (text : List ℕ) (start : ℕ) : ℕ → Type 0 where
-  nothing : {end : ℕ} → end ≡ start → Inside mark text start end
-  byte : {at end : ℕ} → Inside mark text start at → slice_index text at ≢ mark → is_line_end (slice_index text at) ≡ false → end ≡ at + 1 → Inside mark text start end
-  pair : {at end : ℕ} → Inside mark text start at → slice_index text at ≡ mark → slice_index text (at + 1) ≡ mark → end ≡ at + 2 → Inside mark text start end
+-- on one line, bytes other than the delimiter, or pairs of it, from one offset up to another
+pub data Inside (delimiter : ℕ) (text : List ℕ) (start : ℕ) : ℕ → Type 0 where
+  nothing : {end : ℕ} → end ≡ start → Inside delimiter text start end
+  byte : {at end : ℕ} → Inside delimiter text start at → slice_index text at ≢ delimiter → is_line_end (slice_index text at) ≡ false → end ≡ at + 1 → Inside delimiter text start end
+  pair : {at end : ℕ} → Inside delimiter text start at → slice_index text at ≡ delimiter → slice_index text (at + 1) ≡ delimiter → end ≡ at + 2 → Inside delimiter text start end
 
--- between two marks, on one line: a string literal or an extended identifier (clauses 15.7 and 15.4.3)
-pub record IsMarked (mark : ℕ) (text : List ℕ) (start end : ℕ) : Type 0 where
+-- between two delimiters, on one line: a string literal or an extended identifier (clauses 15.7 and 15.4.3)
+pub record IsDelimited (delimiter : ℕ) (text : List ℕ) (start end : ℕ) : Type 0 where
   pub close : ℕ
-  pub inside : Inside mark text (start + 1) close
-  pub closes : slice_index text close ≡ mark
+  pub inside : Inside delimiter text (start + 1) close
+  pub closes : slice_index text close ≡ delimiter
   pub up_to : end ≡ close + 1
 
 -- the bytes from start up to end have the form of the row, which fits at start
@@ -163,9 +163,9 @@ HasForm line_comment text start end = EachByte (λ byte. not (is_line_end byte))
 HasForm block_comment text start end = IsBlockComment text start end
 HasForm tool_directive text start end = EachByte (λ byte. not (is_line_end byte)) text start end
 HasForm (token Word) text start end = EachByte is_word_byte text start end
-HasForm (token Extended) text start end = IsMarked backslash text start end
+HasForm (token Extended) text start end = IsDelimited backslash text start end
 HasForm (token Number) text start end = EachByte is_number_byte text start end
-HasForm (token Str) text start end = IsMarked quote text start end
+HasForm (token Str) text start end = IsDelimited quote text start end
 HasForm (token Char) text start end = end ≡ start + 3
 HasForm (token Tick) text start end = end ≡ start + 1
 HasForm (token Symbol) text start end = end ≡ start + 1
@@ -174,101 +174,101 @@ HasForm (token High) text start end = end ≡ start + 1
 -- ## The cut
 
 -- a token or a gap: the row of the table that it has the form of, and the offsets of its first byte and past its last
-pub record Piece : Type 0 where
+pub record LexicalElement : Type 0 where
   pub row : Row
   pub start : ℕ
   pub end : ℕ
 
--- a piece has the form of its row, and no longer one that begins there has
+-- a lexical element has the form of its row, and no longer one that begins there has
 pub record IsLongest (row : Row) (text : List ℕ) (start end : ℕ) : Type 0 where
   pub some : start < end
   pub within : end ≤ length text
   pub fits : HasForm row text start end
   pub longest : (other : ℕ) → other ≤ length text → HasForm row text start other → other ≤ end
 
--- the piece is right at the offset, given the token before it
-pub record IsRight (text : List ℕ) (last : Option Token) (at : ℕ) (piece : Piece) : Type 0 where
-  pub starts : piece.start ≡ at
-  pub first : piece.row ≡ row_at text last at
-  pub longest : IsLongest piece.row text at piece.end
+-- the lexical element is right at the offset, given the token before it
+pub record IsRight (text : List ℕ) (last : Option Token) (at : ℕ) (lexical_element : LexicalElement) : Type 0 where
+  pub starts : lexical_element.start ≡ at
+  pub first : lexical_element.row ≡ row_at text last at
+  pub longest : IsLongest lexical_element.row text at lexical_element.end
 
--- the token that a piece is, if it is none, no token
+-- the token that a lexical element is, if it is none, no token
 abbrev pub token_of : Row → ℕ → ℕ → List Token
 token_of (token kind) start end = record { kind = kind; start = start; end = end } ∷ []
 token_of _ start end = []
 
--- the bytes of a piece, where it is a line comment
+-- the bytes of a lexical element, where it is a line comment
 abbrev pub comment_of : Row → ℕ → ℕ → List Span
 comment_of line_comment start end = record { start = start; end = end } ∷ []
 comment_of _ start end = []
 
--- the token before the offset after a piece
+-- the token before the offset after a lexical element
 abbrev pub last_after : Option Token → Row → ℕ → ℕ → Option Token
 last_after last (token kind) start end = Some (record { kind = kind; start = start; end = end })
 last_after last _ start end = last
 
 -- an offset of a text, and the token before it
-pub record Place : Type 0 where
+pub record LexState : Type 0 where
   pub last : Option Token
   pub at : ℕ
 
 -- offset 0, with no token before it
-abbrev pub text_start : Place
+abbrev pub text_start : LexState
 text_start = record { last = None; at = 0 }
 
--- the offset after a piece, and the token before that offset
-abbrev pub place_after : Place → Piece → Place
-place_after place piece = record { last = last_after place.last piece.row piece.start piece.end; at = piece.end }
+-- the offset after a lexical element, and the token before that offset
+abbrev pub lex_state_after : LexState → LexicalElement → LexState
+lex_state_after lex_state lexical_element = record { last = last_after lex_state.last lexical_element.row lexical_element.start lexical_element.end; at = lexical_element.end }
 
--- the pieces follow one another from one offset up to another, each right at its offset
-abbrev pub Leads : List ℕ → Place → List Piece → Place → Type 0
-Leads text place [] end = place ≡ end
-Leads text place (piece ∷ pieces) end = IsRight text place.last place.at piece × Leads text (place_after place piece) pieces end
+-- the lexical elements follow one another from one offset up to another, each right at its offset
+abbrev pub Leads : List ℕ → LexState → List LexicalElement → LexState → Type 0
+Leads text lex_state [] end = lex_state ≡ end
+Leads text lex_state (lexical_element ∷ lexical_elements) end = IsRight text lex_state.last lex_state.at lexical_element × Leads text (lex_state_after lex_state lexical_element) lexical_elements end
 
--- The pieces are the cut of the text: each is right at its offset, from the start to the end. In `x <= std_logic'('1')
+-- The lexical elements are the cut of the text: each is right at its offset, from the start to the end. In `x <= std_logic'('1')
 -- & '(' & "a--b";` there are 13 tokens: the first apostrophe is a tick, since the token before it is a name, and no
 -- comment begins in a string.
-pub record IsCut (text : List ℕ) (pieces : List Piece) : Type 0 where
-  pub end : Place
-  pub leads : Leads text text_start pieces end
+pub record IsCut (text : List ℕ) (lexical_elements : List LexicalElement) : Type 0 where
+  pub end : LexState
+  pub leads : Leads text text_start lexical_elements end
   pub whole : end.at ≡ length text
 
--- after pieces that are right something opens at an offset that has no end
+-- after lexical elements that are right something opens at an offset that has no end
 pub record Opens (row : Row) (text : List ℕ) (at : ℕ) : Type 0 where
-  pub pieces : List Piece
-  pub place : Place
-  pub leads : Leads text text_start pieces place
-  pub stands : place.at ≡ at
+  pub lexical_elements : List LexicalElement
+  pub lex_state : LexState
+  pub leads : Leads text text_start lexical_elements lex_state
+  pub stands : lex_state.at ≡ at
   pub within : at < length text
-  pub first : row_at text place.last at ≡ row
+  pub first : row_at text lex_state.last at ≡ row
   pub no_end : (end : ℕ) → end ≤ length text → HasForm row text at end → ⊥
 
--- After pieces that are right a string, an extended identifier or a comment opens that has no end. In a text that ends
+-- After lexical elements that are right a string, an extended identifier or a comment opens that has no end. In a text that ends
 -- in `"abc` it is the string, at its quote.
 abbrev pub HasFault : List ℕ → LexFault → Type 0
 HasFault text (UnclosedString at) = Opens (token Str) text at
 HasFault text (UnclosedExtended at) = Opens (token Extended) text at
 HasFault text (UnclosedComment at) = Opens block_comment text at
 
--- the tokens and the line comments of pieces, in order
-abbrev pub tokens_of : List Piece → List Token
-tokens_of pieces = flat_map (λ piece. token_of piece.row piece.start piece.end) pieces
+-- the tokens and the line comments of lexical elements, in order
+abbrev pub tokens_of : List LexicalElement → List Token
+tokens_of lexical_elements = flat_map (λ lexical_element. token_of lexical_element.row lexical_element.start lexical_element.end) lexical_elements
 
--- the line comments of pieces, in order
-abbrev pub comments_of : List Piece → List Span
-comments_of pieces = flat_map (λ piece. comment_of piece.row piece.start piece.end) pieces
+-- the line comments of lexical elements, in order
+abbrev pub comments_of : List LexicalElement → List Span
+comments_of lexical_elements = flat_map (λ lexical_element. comment_of lexical_element.row lexical_element.start lexical_element.end) lexical_elements
 
--- the tokens and comments are those of the pieces
-pub record AreOf (pieces : List Piece) (tokens : Tokens) : Type 0 where
-  pub list : tokens.list ≡ tokens_of pieces
-  pub comments : tokens.comments ≡ comments_of pieces
+-- the tokens and comments are those of the lexical elements
+pub record AreOf (lexical_elements : List LexicalElement) (tokens : Tokens) : Type 0 where
+  pub list : tokens.list ≡ tokens_of lexical_elements
+  pub comments : tokens.comments ≡ comments_of lexical_elements
 
 -- What scanning gives: tokens of the cut, a fault of the text, or out of memory.
 abbrev pub Scans : List ℕ → Result Tokens (OrMemory LexFault) → Type 0
-Scans text (Ok tokens) = (pieces : List Piece) × IsCut text pieces × AreOf pieces tokens
+Scans text (Ok tokens) = (lexical_elements : List LexicalElement) × IsCut text lexical_elements × AreOf lexical_elements tokens
 Scans text (Err NoMemory) = Unit {0}
 Scans text (Err (Fault fault)) = HasFault text fault
 
--- the bytes of a piece of a text
-abbrev pub bytes_of : List ℕ → Piece → List ℕ
-bytes_of text piece = slice_range text piece.start piece.end
+-- the bytes of a lexical element of a text
+abbrev pub bytes_of : List ℕ → LexicalElement → List ℕ
+bytes_of text lexical_element = slice_range text lexical_element.start lexical_element.end

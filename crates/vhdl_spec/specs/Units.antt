@@ -20,7 +20,7 @@ use Rattle.base.specs.declared.design.UnitFault.TheVariants.{NotUnit, NotEnded}
 use Rattle.base.specs.declared.memory.OrMemory.{OrMemory}
 use Rattle.base.specs.declared.memory.OrMemory.TheVariants.{NoMemory, Fault}
 use Rattle.vhdl_spec.specs.Words.{is_reserved, lower_case}
-use Rattle.vhdl_spec.specs.Tokens.{Piece, IsCut, AreOf}
+use Rattle.vhdl_spec.specs.Tokens.{LexicalElement, IsCut, AreOf}
 
 -- ## Roles of tokens
 
@@ -355,8 +355,8 @@ units_of text tokens elements = units_from text tokens 0 0 elements
 -- alone begins nothing, and `entity e is` alone has no end: both faults are at byte 0. In `entity e is end;`, a line
 -- feed and `end;` nothing begins at byte 17.
 abbrev pub HasUnitFault : List ℕ → List Token → UnitFault → Type 0
-HasUnitFault text tokens (NotUnit place) = (at : ℕ) × IsNoUnit (roles_of text tokens) at × (place ≡ (token_at tokens at).start)
-HasUnitFault text tokens (NotEnded place) = (at : ℕ) × IsUnended (roles_of text tokens) at × (place ≡ (token_at tokens at).start)
+HasUnitFault text tokens (NotUnit lex_state) = (at : ℕ) × IsNoUnit (roles_of text tokens) at × (lex_state ≡ (token_at tokens at).start)
+HasUnitFault text tokens (NotEnded lex_state) = (at : ℕ) × IsUnended (roles_of text tokens) at × (lex_state ≡ (token_at tokens at).start)
 
 -- What outlining gives: the units of the file, a fault, or out of memory.
 abbrev pub Outlines : List ℕ → List Token → Result (List DesignUnit) (OrMemory UnitFault) → Type 0
@@ -366,4 +366,4 @@ Outlines text tokens (Err (Fault fault)) = HasUnitFault text tokens fault
 
 -- the tokens are those of the text's cut
 abbrev pub AreTokensOf : List ℕ → Tokens → Type 0
-AreTokensOf text tokens = (pieces : List Piece) × IsCut text pieces × AreOf pieces tokens
+AreTokensOf text tokens = (lexical_elements : List LexicalElement) × IsCut text lexical_elements × AreOf lexical_elements tokens

@@ -9,19 +9,19 @@ ghost use Rattle.base.specs.declared.design.Role.{Role};
 ghost use Rattle.base.specs.declared.design.UnitFault.{UnitFault};
 ghost use Rattle.vhdl_spec.specs.Units.{AreTokensOf, Element, IsOutline, HasUnitFault, roles_of, units_of};
 ghost use Rattle.vhdl_spec.specs.References.{BeginsClauseOf, IsBackAt, back_to, clause_start};
-ghost use Rattle.vhdl_spec.specs.UnitPlaces.{IsPlaced, FollowOn};
+ghost use Rattle.vhdl_spec.specs.UnitIndices.{IsPlaced, FollowOn};
 ghost use Rattle.vhdl_spec.specs.Visibility.{AreClosed, ScopeUnit, Sets, seen_after, sees};
-ghost use Rattle.vhdl_spec.specs.Tokens.{Piece, IsCut, HasFault, bytes_of};
+ghost use Rattle.vhdl_spec.specs.Tokens.{LexicalElement, IsCut, HasFault, bytes_of};
 
-/// The pieces of a cut, joined, are the text.
-pub fn joined_pieces()
-    ensures { (text : List ℕ) (pieces : List Piece) →
-        IsCut text pieces → flat_map (bytes_of text) pieces ≡ text }
+/// The lexical elements of a cut, joined, are the text.
+pub fn joined_lexical_elements()
+    ensures { (text : List ℕ) (lexical_elements : List LexicalElement) →
+        IsCut text lexical_elements → flat_map (bytes_of text) lexical_elements ≡ text }
 {}
 
 /// A text has no two cuts.
 pub fn one_cut()
-    ensures { (text : List ℕ) (a b : List Piece) → IsCut text a → IsCut text b → a ≡ b }
+    ensures { (text : List ℕ) (a b : List LexicalElement) → IsCut text a → IsCut text b → a ≡ b }
 {}
 
 /// A text has no two faults.
@@ -31,14 +31,14 @@ pub fn one_fault()
 
 /// A text that has a cut has no fault.
 pub fn no_fault_beside()
-    ensures { (text : List ℕ) (pieces : List Piece) (fault : LexFault) →
-        IsCut text pieces → HasFault text fault → ⊥ }
+    ensures { (text : List ℕ) (lexical_elements : List LexicalElement) (fault : LexFault) →
+        IsCut text lexical_elements → HasFault text fault → ⊥ }
 {}
 
 /// Each text has a cut or a fault.
 pub fn cut_or_fault()
     ensures { (text : List ℕ) →
-        ((pieces : List Piece) × IsCut text pieces) ⊎ ((fault : LexFault) × HasFault text fault) }
+        ((lexical_elements : List LexicalElement) × IsCut text lexical_elements) ⊎ ((fault : LexFault) × HasFault text fault) }
 {}
 
 /// The tokens of a cut are in the text, and no more than its bytes.

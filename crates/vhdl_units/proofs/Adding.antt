@@ -18,11 +18,11 @@ pub roles_len : (text : List ℕ) (tokens : List Token) → length (roles_of tex
 roles_len text tokens = length-map tokens (role_of text)
 
 module _ (text : List ℕ) (tokens : List Token) (at : ℕ) where
-  pub plain_places : (kind : UnitKind) (last : ℕ) → IsElement (roles_of text tokens) at (plain kind last) → (at + 2 < last) × (last < length tokens)
-  plain_places kind last is = let ends = plain_after kind (roles_of text tokens) at last is.1 in (ends.after, omega (arith, ends.within, roles_len text tokens))
+  pub plain_offsets : (kind : UnitKind) (last : ℕ) → IsElement (roles_of text tokens) at (plain kind last) → (at + 2 < last) × (last < length tokens)
+  plain_offsets kind last is = let ends = plain_after kind (roles_of text tokens) at last is.1 in (ends.after, omega (arith, ends.within, roles_len text tokens))
 
-  pub owned_places : (kind : UnitKind) (before last : ℕ) → IsElement (roles_of text tokens) at (owned kind before last) → (at + 3 + 2 * before < last) × (last < length tokens)
-  owned_places kind before last is = let ends = end_part_after (roles_of text tokens) (at + 5 + 2 * before) last is.2 in (omega (arith, ends.after), omega (arith, ends.within, roles_len text tokens))
+  pub owned_offsets : (kind : UnitKind) (before last : ℕ) → IsElement (roles_of text tokens) at (owned kind before last) → (at + 3 + 2 * before < last) × (last < length tokens)
+  owned_offsets kind before last is = let ends = end_part_after (roles_of text tokens) (at + 5 + 2 * before) last is.2 in (omega (arith, ends.after), omega (arith, ends.within, roles_len text tokens))
 
 module _ (text : List ℕ) (tokens : List Token) (lead at : ℕ) (old new : List DesignUnit) where
   pub item_added : (last : ℕ) → IsElement (roles_of text tokens) at (item last) → old ≡ new → Adds text tokens lead at old new (record { last = last; lead = lead })
@@ -71,8 +71,8 @@ lead_small lead at (owned kind before last) led after = omega arith
 
 module _ (text : List ℕ) (tokens : List Token) (units : List DesignUnit) (begins : Bool) (lead at : ℕ) (outlined : Outlined text tokens units begins lead at) where
   -- the next token to be looked at lies within the file, and further on
-  pub next_place : (new : List DesignUnit) (next : Next) → Adds text tokens lead at units new next → (at < next.last) × (next.last < length tokens)
-  next_place new next adds =
+  pub next_offset : (new : List DesignUnit) (next : Next) → Adds text tokens lead at units new next → (at < next.last) × (next.last < length tokens)
+  next_offset new next adds =
       let ends = element_after (roles_of text tokens) at adds.element adds.stands in
       (omega (arith, ends.after, adds.last), omega (arith, ends.within, adds.last, roles_len text tokens))
 
@@ -81,14 +81,14 @@ module _ (text : List ℕ) (tokens : List Token) (units : List DesignUnit) (begi
       let roles = roles_of text tokens in
       let ends = element_after roles at adds.element adds.stands in
       let small = lead_small lead at adds.element outlined.led ends.after in
-      let place = next_place new next adds in
+      let offset = next_offset new next adds in
       record {
         elements = outlined.elements ++ adds.element ∷ [];
         follow = subst (λ (n : ℕ). Follow roles 0 (outlined.elements ++ adds.element ∷ []) (n + 1)) (sym adds.last) (follow_more roles 0 outlined.elements at adds.element outlined.follow adds.stands);
         units_are = adds.units ∙ (λ i. outlined.units_are i ++ unit_of text tokens (outlined.lead_is i) at adds.element) ∙ sym (units_more roles text tokens 0 0 outlined.elements at adds.element outlined.follow);
         lead_is = adds.lead_next ∙ ap (λ (n : ℕ). lead_after n adds.element) outlined.lead_is ∙ sym (lead_more 0 outlined.elements adds.element);
         begins_is = later_is;
-        within = omega (arith, place.1);
+        within = omega (arith, offset.1);
         led = omega (arith, small, adds.lead_next, adds.last);
       }
 
@@ -99,5 +99,5 @@ module _ (text : List ℕ) (tokens : List Token) (units : List DesignUnit) (begi
 
   pub outlined_fault : (new : List DesignUnit) (fault : OrMemory UnitFault) → at < length tokens → IsAdded text tokens lead at units new (Err fault) → Outlines text tokens (Err fault)
   outlined_fault new NoMemory within added = tt
-  outlined_fault new (Fault (NotUnit place)) within added = (at, record { elements = outlined.elements; follow = outlined.follow; within = omega (arith, roles_len text tokens); no_start = added.0 }, added.1)
-  outlined_fault new (Fault (NotEnded place)) within added = (at, record { elements = outlined.elements; follow = outlined.follow; within = omega (arith, roles_len text tokens); start = added.0; no_end = added.1 }, added.2)
+  outlined_fault new (Fault (NotUnit offset)) within added = (at, record { elements = outlined.elements; follow = outlined.follow; within = omega (arith, roles_len text tokens); no_start = added.0 }, added.1)
+  outlined_fault new (Fault (NotEnded offset)) within added = (at, record { elements = outlined.elements; follow = outlined.follow; within = omega (arith, roles_len text tokens); start = added.0; no_end = added.1 }, added.2)

@@ -8,7 +8,7 @@ use Rattle.std.proofs.lemmas.List.Sums.{sum_by_more, sum_by-take-drop, count_by-
 use Rattle.base.specs.declared.design.Role.{Role}
 use Rattle.base.specs.declared.design.Role.TheVariants.{Opening, Closing, Other}
 use Rattle.vhdl_spec.specs.Units.{role_at, is_opening, is_closing, IsLevel}
-use Rattle.vhdl_units.specs.Marks.{level_at}
+use Rattle.vhdl_units.specs.Delimiters.{level_at}
 use Rattle.vhdl_units.proofs.Counting.{not_opening, not_closing}
 
 abbrev one_if : Bool → ℕ
@@ -27,17 +27,17 @@ module _ (roles : List Role) where
   level_small at within =
       omega (arith, count_by-le-length is_opening (take at roles), count_by-le-length is_closing (drop at roles), length-take-le at roles within, length-drop at roles)
 
-  to_place : (test : Role → Bool) (start at : ℕ) → start ≤ at → count_by test (take start roles) + count_by test (slice_range roles start at) ≡ count_by test (take at roles)
-  to_place test start at ordered =
+  to_offset : (test : Role → Bool) (start at : ℕ) → start ≤ at → count_by test (take start roles) + count_by test (slice_range roles start at) ≡ count_by test (take at roles)
+  to_offset test start at ordered =
       ap (λ (part : List Role). count_by test part + count_by test (slice_range roles start at)) (sym (take-take start at roles ordered)) ∙ ap (λ (part : List Role). count_by test (take start (take at roles)) + count_by test part) (between_is roles start at) ∙ sum_by-take-drop (λ role. cond (test role) 1 0) (take at roles) start
 
   pub same_level : (start at : ℕ) → start ≤ at → IsLevel roles start at → level_at roles start ≡ level_at roles at
   same_level start at ordered level =
-      omega (arith, level, to_place is_opening start at ordered, to_place is_closing start at ordered, sum_by-take-drop (λ role. cond (is_closing role) 1 0) roles start, sum_by-take-drop (λ role. cond (is_closing role) 1 0) roles at)
+      omega (arith, level, to_offset is_opening start at ordered, to_offset is_closing start at ordered, sum_by-take-drop (λ role. cond (is_closing role) 1 0) roles start, sum_by-take-drop (λ role. cond (is_closing role) 1 0) roles at)
 
   pub level_again : (start at : ℕ) → start ≤ at → level_at roles start ≡ level_at roles at → IsLevel roles start at
   level_again start at ordered same =
-      omega (arith, same, to_place is_opening start at ordered, to_place is_closing start at ordered, sum_by-take-drop (λ role. cond (is_closing role) 1 0) roles start, sum_by-take-drop (λ role. cond (is_closing role) 1 0) roles at)
+      omega (arith, same, to_offset is_opening start at ordered, to_offset is_closing start at ordered, sum_by-take-drop (λ role. cond (is_closing role) 1 0) roles start, sum_by-take-drop (λ role. cond (is_closing role) 1 0) roles at)
 
   -- the level of the next token, by the role of the token between
   pub level_opening : (at : ℕ) → at < length roles → role_at roles at ≡ Opening → level_at roles (at + 1) ≡ level_at roles at + 1

@@ -1,7 +1,7 @@
--- The lemmas on outlining: depths of parentheses, regions, and the units of a file.
+-- The lemmas.
 pub mod Counting
 pub mod Levels
-pub mod MarkTable
+pub mod DelimiterTable
 pub mod Walks
 pub mod Reaching
 pub mod Adding

@@ -8,37 +8,37 @@ use Rattle.base.specs.declared.design.Beginning.TheVariants as begins
 use Rattle.vhdl_spec.specs.Units.{role_at, IsOwner, HasBody, IsFirstSemicolon, IsEndPart, beginning_at, Begins, BeginsAs, Element, item, plain, owned, IsElement}
 use Rattle.vhdl_spec.proofs.Files.{in_file}
 use Rattle.vhdl_spec.proofs.Grammar.{one_close, one_owner}
-use Rattle.vhdl_units.specs.Parts.{IsNextMark, IsUnitClose, IsSemicolonFrom, IsEndFrom}
+use Rattle.vhdl_units.specs.Parts.{IsNextDelimiter, IsUnitClose, IsSemicolonFrom, IsEndFrom}
 
 -- the names of an owner and the dots between them, as far as the walk has come
 pub record OwnerSoFar (roles : List Role) (start before at : ℕ) : Type 0 where
-  pub place : at ≡ start + 2 * before
+  pub offset : at ≡ start + 2 * before
   pub names : (n : ℕ) → n < before → role_at roles (start + 2 * n) ≡ Name
   pub dots : (n : ℕ) → n < before → role_at roles (start + 2 * n + 1) ≡ Dot
 
--- the body's `is` is the next mark
-pub body_at_mark : (roles : List Role) (start at mark : ℕ) → IsNextMark roles start (at + 1) mark → (body : HasBody roles start at) → body.is_at ≡ mark
-body_at_mark roles start at mark next body =
+-- the body's `is` is the next delimiter
+pub body_at_delimiter : (roles : List Role) (start at delimiter : ℕ) → IsNextDelimiter roles start (at + 1) delimiter → (body : HasBody roles start at) → body.is_at ≡ delimiter
+body_at_delimiter roles start at delimiter next body =
     ⊎_elim
     (λ earlier. let none = next.none body.is_at (omega (arith, body.later)) earlier body.is_level in absurd (none.0 body.is_there))
     (λ h. ⊎_elim
     (λ later.
     let is_in : body.is_at < length roles = in_file roles body.is_at (λ other. let is : role_at roles body.is_at ≡ Is = body.is_there in cc) in
     let there = next.there (omega arith) in
-    let first = body.first mark (omega (arith, next.after)) later there.0 in
+    let first = body.first delimiter (omega (arith, next.after)) later there.0 in
     absurd (⊎_elim first.0 first.1 there.1))
     (λ same. omega arith)
-    (order mark body.is_at))
-    (order body.is_at mark)
+    (order delimiter body.is_at))
+    (order body.is_at delimiter)
 
--- where the next mark is an `is`, whether there is a body hangs on what comes after it
-pub body_here : (roles : List Role) (start at mark : ℕ) → IsNextMark roles start (at + 1) mark → role_at roles mark ≡ Is → role_at roles (mark + 1) ≢ New → HasBody roles start at
-body_here roles start at mark next is no_new =
-    let is_in : mark < length roles = in_file roles mark (λ other. cc) in
-    record { is_at = mark; later = omega (arith, next.after); is_there = is; is_level = (next.there is_in).0; first = λ between after before level. next.none between (omega arith) before level; no_new = no_new }
+-- where the next delimiter is an `is`, whether there is a body hangs on what comes after it
+pub body_here : (roles : List Role) (start at delimiter : ℕ) → IsNextDelimiter roles start (at + 1) delimiter → role_at roles delimiter ≡ Is → role_at roles (delimiter + 1) ≢ New → HasBody roles start at
+body_here roles start at delimiter next is no_new =
+    let is_in : delimiter < length roles = in_file roles delimiter (λ other. cc) in
+    record { is_at = delimiter; later = omega (arith, next.after); is_there = is; is_level = (next.there is_in).0; first = λ between after before level. next.none between (omega arith) before level; no_new = no_new }
 
-pub body_without_new : (roles : List Role) (start at mark : ℕ) → IsNextMark roles start (at + 1) mark → HasBody roles start at → role_at roles (mark + 1) ≢ New
-body_without_new roles start at mark next body is = body.no_new (ap (λ (n : ℕ). role_at roles (n + 1)) (body_at_mark roles start at mark next body) ∙ is)
+pub body_without_new : (roles : List Role) (start at delimiter : ℕ) → IsNextDelimiter roles start (at + 1) delimiter → HasBody roles start at → role_at roles (delimiter + 1) ≢ New
+body_without_new roles start at delimiter next body is = body.no_new (ap (λ (n : ℕ). role_at roles (n + 1)) (body_at_delimiter roles start at delimiter next body) ∙ is)
 
 pub no_test : (test : Bool) (P : Type 0) → (IsTrue test ↔ P) → IsTrue (not test) → P → ⊥
 no_test true P means fails p = cc

@@ -1,7 +1,9 @@
--- What the functions that outline a file find, as their contracts say it.
+-- The definitions.
+pub mod UnitKeys
+pub mod KeyParts
 pub mod Lies
 pub mod Names
 pub mod Parts
 pub mod Walk
-pub mod Marks
+pub mod Delimiters
 pub mod Standing

@@ -3,7 +3,7 @@ use Rattle.std.specs.Prelude.{◌≢◌, ℕ, ◌<◌, ◌≤◌, Bool, false, L
 use Rattle.base.specs.declared.design.Role.{Role}
 use Rattle.base.specs.declared.design.Role.TheVariants.{Is, Semicolon}
 use Rattle.vhdl_spec.specs.Units.{role_at, IsLevel, OpensItems, IsGenerateOpener, Closes, IsSingle, Items, IsPlainEnd, IsFirstSemicolon, IsOwner, IsEndPart}
-use Rattle.vhdl_units.specs.Marks.{IsMark}
+use Rattle.vhdl_units.specs.Delimiters.{IsDelimiter}
 use Rattle.vhdl_units.specs.declared.class.Class.{Class}
 use Rattle.vhdl_units.specs.declared.class.Class.TheVariants.{Single, Items as OpensPlain, Region, Close}
 
@@ -18,11 +18,11 @@ IsOwnerFrom roles start None = (before : ℕ) → IsOwner roles start before →
 IsOwnerFrom roles start (Some before) = IsOwner roles start before
 
 -- the first `is` or `;` at level from a token on, or the end of the file
-pub record IsNextMark (roles : List Role) (start from mark : ℕ) : Type 0 where
-  pub after : from ≤ mark
-  pub within : mark ≤ length roles
-  pub none : (between : ℕ) → from ≤ between → between < mark → IsLevel roles start between → (role_at roles between ≢ Is) × (role_at roles between ≢ Semicolon)
-  pub there : mark < length roles → IsLevel roles start mark × IsMark (role_at roles mark)
+pub record IsNextDelimiter (roles : List Role) (start from delimiter : ℕ) : Type 0 where
+  pub after : from ≤ delimiter
+  pub within : delimiter ≤ length roles
+  pub none : (between : ℕ) → from ≤ between → between < delimiter → IsLevel roles start between → (role_at roles between ≢ Is) × (role_at roles between ≢ Semicolon)
+  pub there : delimiter < length roles → IsLevel roles start delimiter × IsDelimiter (role_at roles delimiter)
 
 -- the class of a token
 abbrev pub IsClass : List Role → ℕ → Bool → ℕ → Class → Type 0

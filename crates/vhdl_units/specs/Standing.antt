@@ -32,8 +32,8 @@ pub record Adds (text : List ℕ) (tokens : List Token) (lead at : ℕ) (old new
 abbrev pub IsAdded : List ℕ → List Token → ℕ → ℕ → List DesignUnit → List DesignUnit → Result Next (OrMemory UnitFault) → Type 0
 IsAdded text tokens lead at old new (Ok next) = Adds text tokens lead at old new next
 IsAdded text tokens lead at old new (Err NoMemory) = Unit {0}
-IsAdded text tokens lead at old new (Err (Fault (NotUnit place))) = (Begins (roles_of text tokens) at → ⊥) × (place ≡ (token_at tokens at).start)
-IsAdded text tokens lead at old new (Err (Fault (NotEnded place))) = Begins (roles_of text tokens) at × ((element : Element) → IsElement (roles_of text tokens) at element → ⊥) × (place ≡ (token_at tokens at).start)
+IsAdded text tokens lead at old new (Err (Fault (NotUnit offset))) = (Begins (roles_of text tokens) at → ⊥) × (offset ≡ (token_at tokens at).start)
+IsAdded text tokens lead at old new (Err (Fault (NotEnded offset))) = Begins (roles_of text tokens) at × ((element : Element) → IsElement (roles_of text tokens) at element → ⊥) × (offset ≡ (token_at tokens at).start)
 
 -- these units, or out of memory
 abbrev pub GivesUnits : List DesignUnit → Result (List DesignUnit) (OrMemory UnitFault) → Type 0

@@ -3,8 +3,8 @@
 ghost use Rattle.std.specs.Prelude.{◌≡◌, ◌≤◌, ◌<◌, ◌+◌, ◌↔◌, Bool, IsTrue, length};
 ghost use Rattle.vhdl_spec.specs.Units.{IsNotAfter, MayOpen, BeginsPackage, HasBody, IsPackageOpener, IsSubprogramOpener, IsGenerateOpener, Closes, IsLevel, begins_generate, ends_inner, role_at};
 ghost use Rattle.vhdl_units.specs.Walk.{AreCounts, IsKnown};
-ghost use Rattle.vhdl_units.specs.Marks.{AreMarks, IsSubprogramWord};
-ghost use Rattle.vhdl_units.specs.Parts.{IsClass, IsNextMark};
+ghost use Rattle.vhdl_units.specs.Delimiters.{AreDelimiters, IsSubprogramWord};
+ghost use Rattle.vhdl_units.specs.Parts.{IsClass, IsNextDelimiter};
 
 use crate::ends::{begins_at, role_at};
 use crate::level::{Counts, counts_at};
@@ -73,24 +73,30 @@ fn opens_package(roles: &[Role], start: usize, at: usize, counts: Counts) -> boo
     may_open(roles, start, at, counts) && begins_package(roles, at)
 }
 
-/// Whether a subprogram's word begins a body; `mark` is the first `is` or `;` at level after it.
-fn has_body(roles: &[Role], start: usize, at: usize, mark: usize) -> bool
+/// Whether a subprogram's word begins a body; `delimiter` is the first `is` or `;` at level after it.
+fn has_body(roles: &[Role], start: usize, at: usize, delimiter: usize) -> bool
     requires within { at < length roles.now }
-    requires mark { IsNextMark roles.now start (at + 1) mark }
+    requires delimiter { IsNextDelimiter roles.now start (at + 1) delimiter }
     ensures { IsTrue result ↔ HasBody roles.now start at }
 {
-    is_role(roles, mark, Role::Is) && !is_role(roles, mark + 1, Role::New)
+    is_role(roles, delimiter, Role::Is) && !is_role(roles, delimiter + 1, Role::New)
 }
 
 /// Whether a token opens the items of a subprogram.
-fn opens_subprogram(roles: &[Role], marks: &[u32], start: usize, at: usize, counts: Counts) -> bool
+fn opens_subprogram(
+    roles: &[Role],
+    delimiters: &[u32],
+    start: usize,
+    at: usize,
+    counts: Counts,
+) -> bool
     requires within { at < length roles.now }
     requires counts { AreCounts roles.now start at counts }
-    requires marks { AreMarks roles.now 0 marks.now }
+    requires delimiters { AreDelimiters roles.now 0 delimiters.now }
     requires word { IsSubprogramWord (role_at roles.now at) }
     ensures { IsTrue result ↔ IsSubprogramOpener roles.now start at }
 {
-    may_open(roles, start, at, counts) && has_body(roles, start, at, marks[at] as usize)
+    may_open(roles, start, at, counts) && has_body(roles, start, at, delimiters[at] as usize)
 }
 
 /// Whether a `generate` opens a region.
@@ -158,14 +164,14 @@ fn class_of_package(roles: &[Role], start: usize, at: usize, known: &mut Known) 
 /// The class of the word of a subprogram.
 fn class_of_subprogram(
     roles: &[Role],
-    marks: &[u32],
+    delimiters: &[u32],
     start: usize,
     at: usize,
     known: &mut Known,
 ) -> Class
     requires within { at < length roles.now }
     requires known { IsKnown roles.now start at known.old }
-    requires marks { AreMarks roles.now 0 marks.now }
+    requires delimiters { AreDelimiters roles.now 0 delimiters.now }
     requires word { IsSubprogramWord (role_at roles.now at) }
     ensures known { IsKnown roles.now start at known.new }
     ensures class { (inside : Bool) → IsClass roles.now start inside at result }
@@ -173,7 +179,7 @@ fn class_of_subprogram(
     let counts = counts_at(known.counts, roles, start, known.counted, at);
     known.counts = counts;
     known.counted = at;
-    if opens_subprogram(roles, marks, start, at, counts) {
+    if opens_subprogram(roles, delimiters, start, at, counts) {
         Class::Items
     } else {
         Class::Single
@@ -202,7 +208,7 @@ fn class_of_generate(roles: &[Role], start: usize, at: usize, known: &mut Known)
 #[inline(never)]
 fn class_of_word(
     roles: &[Role],
-    marks: &[u32],
+    delimiters: &[u32],
     start: usize,
     at: usize,
     inside: bool,
@@ -210,13 +216,15 @@ fn class_of_word(
 ) -> Class
     requires within { at < length roles.now }
     requires known { IsKnown roles.now start at known.old }
-    requires marks { AreMarks roles.now 0 marks.now }
+    requires delimiters { AreDelimiters roles.now 0 delimiters.now }
     ensures known { IsKnown roles.now start at known.new }
     ensures class { IsClass roles.now start inside at result }
 {
     match roles[at] {
         Role::Package => class_of_package(roles, start, at, known),
-        Role::Function | Role::Procedure => class_of_subprogram(roles, marks, start, at, known),
+        Role::Function | Role::Procedure => class_of_subprogram(
+            roles, delimiters, start, at, known,
+        ),
         Role::Generate => class_of_generate(roles, start, at, known),
         Role::End if closes(roles, inside, at) => Class::Close,
         _ => Class::Single,
@@ -228,7 +236,7 @@ fn class_of_word(
 #[inline(always)]
 pub fn class_at(
     roles: &[Role],
-    marks: &[u32],
+    delimiters: &[u32],
     start: usize,
     at: usize,
     inside: bool,
@@ -236,13 +244,13 @@ pub fn class_at(
 ) -> Class
     requires within { at < length roles.now }
     requires known { IsKnown roles.now start at known.old }
-    requires marks { AreMarks roles.now 0 marks.now }
+    requires delimiters { AreDelimiters roles.now 0 delimiters.now }
     ensures known { IsKnown roles.now start at known.new }
     ensures class { IsClass roles.now start inside at result }
 {
     match roles[at] {
         Role::Package | Role::Function | Role::Procedure | Role::Generate | Role::End =>
-            class_of_word(roles, marks, start, at, inside, known),
+            class_of_word(roles, delimiters, start, at, inside, known),
         _ => Class::Single,
     }
 }

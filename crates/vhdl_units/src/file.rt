@@ -7,8 +7,8 @@ ghost use Rattle.vhdl_spec.specs.Units.{AreTokensOf, Element, HasUnitFault, IsOu
 ghost use Rattle.vhdl_units.specs.Lies.{AllLieIn};
 ghost use Rattle.vhdl_units.specs.Standing.{IsStanding, IsAdded, GivesUnits, GivesUnitFault};
 
+use crate::delimiters::delimiters_of;
 use crate::ends::begins_at;
-use crate::marks::marks_of;
 use crate::stands::{Standing, stands_at};
 use crate::texts::{owned_unit, plain_unit};
 use base::{Items, OrMemory, Role, RoleList, TEXT_LIMIT, Token, Tokens, Unit, UnitFault, UnitList};
@@ -101,14 +101,14 @@ fn read(
     requires roles { roles.now ≡ roles_of text.now tokens.now }
     ensures { Outlines text.now tokens.now result }
 {
-    let next_marks = marks_of(alloc, roles)?;
-    let marks = next_marks.as_slice();
+    let next_delimiters = delimiters_of(alloc, roles)?;
+    let delimiters = next_delimiters.as_slice();
     let mut units = Vec::new(alloc);
     let mut begins = false;
     let mut lead = 0;
     let mut at = 0;
     while at < roles.len() {
-        let standing = stands_at(alloc, roles, marks, at, begins)?;
+        let standing = stands_at(alloc, roles, delimiters, at, begins)?;
         let next = add_unit(alloc, text, tokens, &mut units, lead, at, standing)?;
         begins = begins_at(roles, at, next.last + 1, begins);
         lead = next.lead;

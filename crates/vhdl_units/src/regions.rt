@@ -3,7 +3,7 @@
 ghost use Rattle.std.specs.Prelude.{◌≡◌, ◌≤◌, ◌<◌, ◌+◌, length, IfOk};
 ghost use Rattle.vhdl_spec.specs.Units.{begins_generate, role_at};
 ghost use Rattle.vhdl_units.specs.Parts.{IsCloseFrom, IsEndFrom};
-ghost use Rattle.vhdl_units.specs.Marks.{AreMarks};
+ghost use Rattle.vhdl_units.specs.Delimiters.{AreDelimiters};
 ghost use Rattle.vhdl_units.specs.Walk.{IsStep};
 
 use crate::class::{Class, Known, class_at};
@@ -53,13 +53,13 @@ impl Regions {
 fn unit_close(
     alloc: Global,
     roles: &[Role],
-    marks: &[u32],
+    delimiters: &[u32],
     start: usize,
     begins: bool,
 ) -> Result<Option<usize>, NoMemory>
     requires within { start ≤ length roles.now }
     requires begins { begins ≡ begins_generate roles.now start }
-    requires marks { AreMarks roles.now 0 marks.now }
+    requires delimiters { AreDelimiters roles.now 0 delimiters.now }
     ensures { IfOk result (IsCloseFrom roles.now start) }
 {
     let mut regions = Regions {
@@ -79,7 +79,7 @@ fn unit_close(
     let mut at = start;
     while at < roles.len() {
         let inside = regions.inside;
-        let class = class_at(roles, marks, start, at, inside, &mut known);
+        let class = class_at(roles, delimiters, start, at, inside, &mut known);
         if regions.step(class)? {
             return Ok(Some(at));
         }
@@ -92,16 +92,16 @@ fn unit_close(
 pub fn unit_end(
     alloc: Global,
     roles: &[Role],
-    marks: &[u32],
+    delimiters: &[u32],
     start: usize,
     begins: bool,
 ) -> Result<Option<usize>, NoMemory>
     requires within { start ≤ length roles.now }
     requires begins { begins ≡ begins_generate roles.now start }
-    requires marks { AreMarks roles.now 0 marks.now }
+    requires delimiters { AreDelimiters roles.now 0 delimiters.now }
     ensures { IfOk result (IsEndFrom roles.now start) }
 {
-    match unit_close(alloc, roles, marks, start, begins)? {
+    match unit_close(alloc, roles, delimiters, start, begins)? {
         Some(close) => Ok(first_semicolon(roles, close + 1)),
         None => Ok(None),
     }

@@ -3,7 +3,7 @@
 ghost use Rattle.std.specs.Prelude.{◌≡◌, ◌<◌, length, IfOk};
 ghost use Rattle.vhdl_spec.specs.Units.{begins_generate, beginning_at};
 ghost use Rattle.base.specs.declared.design.Beginning.TheVariants as begin;
-ghost use Rattle.vhdl_units.specs.Marks.{AreMarks};
+ghost use Rattle.vhdl_units.specs.Delimiters.{AreDelimiters};
 ghost use Rattle.vhdl_units.specs.Standing.{IsStanding};
 
 use crate::ends::{beginning_at, begins_at, first_semicolon, owner_from};
@@ -26,14 +26,14 @@ pub enum Standing {
 fn plain_at(
     alloc: Global,
     roles: &[Role],
-    marks: &[u32],
+    delimiters: &[u32],
     at: usize,
     begins: bool,
     kind: UnitKind,
 ) -> Result<Standing, NoMemory>
     requires within { at < length roles.now }
     requires begins { begins ≡ begins_generate roles.now at }
-    requires marks { AreMarks roles.now 0 marks.now }
+    requires delimiters { AreDelimiters roles.now 0 delimiters.now }
     requires is { beginning_at roles.now at ≡ begin.Plain kind }
     ensures { IfOk result (IsStanding roles.now at) }
 {
@@ -42,14 +42,14 @@ fn plain_at(
         UnitKind::PackageBody => unit_end(
             alloc,
             roles,
-            marks,
+            delimiters,
             at + 4,
             begins_at(roles, at, at + 4, begins),
         )?,
         _ => unit_end(
             alloc,
             roles,
-            marks,
+            delimiters,
             at + 3,
             begins_at(roles, at, at + 3, begins),
         )?,
@@ -64,14 +64,14 @@ fn plain_at(
 fn owned_at(
     alloc: Global,
     roles: &[Role],
-    marks: &[u32],
+    delimiters: &[u32],
     at: usize,
     begins: bool,
     kind: UnitKind,
 ) -> Result<Standing, NoMemory>
     requires within { at < length roles.now }
     requires begins { begins ≡ begins_generate roles.now at }
-    requires marks { AreMarks roles.now 0 marks.now }
+    requires delimiters { AreDelimiters roles.now 0 delimiters.now }
     requires is { beginning_at roles.now at ≡ begin.Owned kind }
     ensures { IfOk result (IsStanding roles.now at) }
 {
@@ -82,7 +82,7 @@ fn owned_at(
     match unit_end(
         alloc,
         roles,
-        marks,
+        delimiters,
         start,
         begins_at(roles, at, start, begins),
     )? {
@@ -95,13 +95,13 @@ fn owned_at(
 pub fn stands_at(
     alloc: Global,
     roles: &[Role],
-    marks: &[u32],
+    delimiters: &[u32],
     at: usize,
     begins: bool,
 ) -> Result<Standing, NoMemory>
     requires within { at < length roles.now }
     requires begins { begins ≡ begins_generate roles.now at }
-    requires marks { AreMarks roles.now 0 marks.now }
+    requires delimiters { AreDelimiters roles.now 0 delimiters.now }
     ensures { IfOk result (IsStanding roles.now at) }
 {
     match beginning_at(roles, at) {
@@ -109,8 +109,8 @@ pub fn stands_at(
             Some(last) => Ok(Standing::Item(last)),
             None => Ok(Standing::Unended),
         },
-        Beginning::Plain(kind) => plain_at(alloc, roles, marks, at, begins, kind),
-        Beginning::Owned(kind) => owned_at(alloc, roles, marks, at, begins, kind),
+        Beginning::Plain(kind) => plain_at(alloc, roles, delimiters, at, begins, kind),
+        Beginning::Owned(kind) => owned_at(alloc, roles, delimiters, at, begins, kind),
         Beginning::Nothing => Ok(Standing::NoUnit),
     }
 }

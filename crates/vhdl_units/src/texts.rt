@@ -4,7 +4,7 @@ ghost use Rattle.std.specs.Prelude.{◌≡◌, ◌↔◌, IsTrue, ◌+◌, ◌*�
 ghost use Rattle.base.specs.declared.lexical.Token.{Token};
 ghost use Rattle.vhdl_spec.specs.Words.{lower_case};
 ghost use Rattle.vhdl_spec.specs.Units.{name_of, name_token, unit_of, plain, owned, token_at};
-ghost use Rattle.vhdl_lex.specs.Pieces.{LiesIn};
+ghost use Rattle.vhdl_lex.specs.LexicalElements.{LiesIn};
 ghost use Rattle.vhdl_units.specs.Lies.{AllLieIn};
 ghost use Rattle.vhdl_units.specs.Names.{token_name};
 

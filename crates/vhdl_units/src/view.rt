@@ -2,7 +2,7 @@
 
 ghost use Rattle.std.specs.Prelude.{◌≡◌, ◌<◌, ◌↔◌, IsTrue, IfOk, length};
 ghost use Rattle.vhdl_spec.specs.Units.{AreTokensOf, name_of, token_at};
-ghost use Rattle.vhdl_lex.specs.Pieces.{LiesIn};
+ghost use Rattle.vhdl_lex.specs.LexicalElements.{LiesIn};
 
 use crate::texts::{token_at, token_has_name, token_name};
 use base::{NoMemory, Text, Token, Tokens};

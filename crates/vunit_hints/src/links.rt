@@ -1,10 +1,10 @@
 //! Folders behind links, which no pattern enters.
 
+use crate::LineWriter;
 use crate::matching::{Pattern, is_matched, patterns_of};
 use crate::patterns::is_linked_folder;
 use crate::project::ProjectText;
 use base::{NAME_LIMIT, NoMemory, PATH_LIMIT};
-use run_hints::LineWriter;
 use std::alloc::Global;
 use std::fs;
 use system_files::OUTPUT_FOLDER;
@@ -34,13 +34,13 @@ pub fn push_linked_folders(
     project: &ProjectText,
 ) -> Result<(), NoMemory> {
     let alloc = rt.alloc();
-    let links = walked(rt, String::new(alloc), NAME_LIMIT, false)?.links;
+    let links = walk_links(rt, String::new(alloc), NAME_LIMIT, false)?.links;
     if links.is_empty() {
         return Ok(());
     }
     let patterns = patterns_of(alloc, project)?;
     for link in links.into_iter().take(LINKS_TRIED) {
-        let below = walked(rt, link, BELOW_LIMIT, true)?;
+        let below = walk_links(rt, link, BELOW_LIMIT, true)?;
         push_link(alloc, lines, &below.files, patterns.as_slice())?;
     }
     Ok(())
@@ -77,7 +77,7 @@ fn push_about_link(alloc: Global, lines: &mut Vec<Vec<u8>>, file: &[u8]) -> Resu
 
 /// Walks the folders from one on, and gives the links to folders that it finds, and where they are wanted the files. It
 /// enters no link, and ends after so many names.
-fn walked(
+fn walk_links(
     rt: &HostRuntime,
     from: String,
     limit: usize,
@@ -108,8 +108,8 @@ fn walk_folder(
     limit: usize,
     wants_files: bool,
 ) -> Result<(), NoMemory> {
-    let place = if folder.is_empty() { "." } else { folder };
-    let Ok(entries) = fs::read_dir(rt, place) else {
+    let location = if folder.is_empty() { "." } else { folder };
+    let Ok(entries) = fs::read_dir(rt, location) else {
         return Ok(());
     };
     for entry in entries {
@@ -127,7 +127,7 @@ fn walk_folder(
         if name.starts_with('.') {
             continue;
         }
-        let path = joined(rt.alloc(), folder, name)?;
+        let path = join_path(rt.alloc(), folder, name)?;
         if path.len() > PATH_LIMIT || path.as_str() == OUTPUT_FOLDER {
             continue;
         }
@@ -142,7 +142,7 @@ fn walk_folder(
     Ok(())
 }
 
-fn joined(alloc: Global, folder: &str, name: &str) -> Result<String, NoMemory> {
+fn join_path(alloc: Global, folder: &str, name: &str) -> Result<String, NoMemory> {
     let mut path = String::from_str(alloc, folder)?;
     if !folder.is_empty() {
         path.push('/')?;

@@ -1,7 +1,7 @@
 //! Why a pattern of files matches nothing.
 
+use crate::LineWriter;
 use base::NoMemory;
-use run_hints::LineWriter;
 use std::fs;
 
 /// Adds why a pattern matches nothing, where that can be seen.

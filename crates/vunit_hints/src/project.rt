@@ -2,14 +2,13 @@
 
 use crate::texts::text_of;
 use crate::wrong::wrong_table;
-use base::NoMemory;
-use project_hints::{
-    FoundKey, KeyList, TableKind, UnknownKey, key_of, keys_of, shown_value, toml_fault,
-    unknown_keys,
+use crate::{
+    FoundKey, KeyList, LineWriter, TableKind, UnknownKey, key_of, keys_of, push_warning,
+    shown_value, toml_fault, unknown_keys,
 };
-use run_hints::{LineWriter, push_warning};
+use base::NoMemory;
 use std::alloc::Global;
-use system_causes::{place_line, place_of};
+use system_files::{location_line, location_of};
 
 /// The project file in TOML.
 const TOML_FILE: &[u8] = b"vunit.toml";
@@ -71,10 +70,10 @@ impl ProjectText {
         lines: &mut Vec<Vec<u8>>,
         unknown: &UnknownKey<'_>,
     ) -> Result<(), NoMemory> {
-        let place = self.place(alloc, unknown.key)?;
+        let location = self.location(alloc, unknown.key)?;
         let mut line = LineWriter::warning(alloc)?;
         line.put(TOML_FILE)?;
-        line.put(place.as_bytes())?;
+        line.put(location.as_bytes())?;
         line.put(b"unknown key ")?;
         line.put(unknown.key.name.as_bytes())?;
         if let Some(meant) = unknown.meant {
@@ -85,12 +84,12 @@ impl ProjectText {
         line.finish(lines)
     }
 
-    /// The place of a key, as `:1:1: `.
-    fn place(&self, alloc: Global, key: &FoundKey) -> Result<String, NoMemory> {
+    /// The location of a key, as `:1:1: `.
+    fn location(&self, alloc: Global, key: &FoundKey) -> Result<String, NoMemory> {
         let at = key.at.min(self.text.len());
-        let place = place_of(self.text.as_slice(), at);
-        let line = place.line;
-        let column = place.column;
+        let location = location_of(self.text.as_slice(), at);
+        let line = location.line;
+        let column = location.column;
         Ok(format!(in alloc; ":{line}:{column}: ")?)
     }
 
@@ -100,8 +99,8 @@ impl ProjectText {
             return Ok(None);
         };
         let at = fault.at.min(self.text.len());
-        let place = place_of(self.text.as_slice(), at);
-        let line = place_line(alloc, TOML_FILE, place, fault.said.as_slice())?;
+        let location = location_of(self.text.as_slice(), at);
+        let line = location_line(alloc, TOML_FILE, location, fault.said.as_slice())?;
         Ok(Some(line))
     }
 
@@ -123,8 +122,8 @@ impl ProjectText {
         words.extend_from_slice(b": ")?;
         words.extend_from_slice(shown_value(text, key.value_at))?;
         let at = key.value_at.min(text.len());
-        let place = place_of(self.text.as_slice(), at);
-        let line = place_line(alloc, TOML_FILE, place, words.as_slice())?;
+        let location = location_of(self.text.as_slice(), at);
+        let line = location_line(alloc, TOML_FILE, location, words.as_slice())?;
         Ok(Some(line))
     }
 }

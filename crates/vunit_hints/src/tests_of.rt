@@ -1,12 +1,11 @@
 //! The tests of a project, as its sources are now.
 
+use crate::LineWriter;
 use base::{NoMemory, TextList};
-use project_reading::{Extent, ReadProject, Wish, read_project};
-use run_hints::LineWriter;
+use project_reading::{Query, QueryKind, ReadProject, planned_runs, read_project};
 use std::alloc::Global;
 use system_files::FileTree;
-use test_plan::planned_runs;
-use test_select::{Pattern, full_name, matches, read_pattern};
+use testbench_select::{Pattern, full_name, matches, read_pattern};
 
 /// How many patterns are looked at.
 const PATTERNS_TRIED: usize = 100;
@@ -21,13 +20,13 @@ pub struct Again {
 /// Reads the project of the present folder again; nothing where it can't be read.
 pub fn read_again(rt: &HostRuntime, patterns: &TextList) -> Option<Again> {
     let alloc = rt.alloc();
-    let wish = Wish {
-        extent: Extent::Tests,
+    let query = Query {
+        query_kind: QueryKind::Tests,
         patterns: patterns.copy(alloc).ok()?,
     };
     let mut tree = FileTree::new(alloc, *rt).ok()?;
-    let read = read_project(alloc, &mut tree, &wish).ok()?;
-    let runs = planned_runs(alloc, &wish, &read).ok()?;
+    let read = read_project(alloc, &mut tree, &query).ok()?;
+    let runs = planned_runs(alloc, &query, &read).ok()?;
     let mut tests: u64 = 0;
     for run in runs.as_slice() {
         let count = if run.whole { 1 } else { run.cases.len() };

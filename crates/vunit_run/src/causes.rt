@@ -1,14 +1,11 @@
 //! The line that says why an object over the system failed.
 
-use base_outcomes::Which;
+use base_outcomes::OutsideObject;
 use std::alloc::Global;
-use system_causes::{Cause, cause_line};
-use system_children::ChildProcs;
-use system_disk::FileDisk;
-use system_files::{FileTree, StdSink, StdSource};
-use system_progress::ToldProcs;
-use system_records::WatchedDisk;
-use system_reports::FileReports;
+use system_children::{ChildProcs, ToldProcs};
+use system_files::{
+    Cause, FileDisk, FileReports, FileTree, StdSink, StdSource, WatchedDisk, cause_line,
+};
 
 /// Children of the system, of which standard error is told.
 pub type Children = ToldProcs<ChildProcs<HostRuntime>, HostRuntime>;
@@ -28,7 +25,7 @@ pub struct Outside<'a> {
 }
 
 /// The line of a fault of this object, which says of what a call was, which one, and what the system said.
-pub fn fault_cause(alloc: Global, which: Which, outside: &Outside) -> Option<Vec<u8>> {
+pub fn fault_cause(alloc: Global, which: OutsideObject, outside: &Outside) -> Option<Vec<u8>> {
     let (subject, cause) = cause_of(which, outside)?;
     match cause_line(alloc, subject, &cause) {
         Ok(line) => Some(line),
@@ -36,15 +33,15 @@ pub fn fault_cause(alloc: Global, which: Which, outside: &Outside) -> Option<Vec
     }
 }
 
-fn cause_of<'a>(which: Which, outside: &Outside<'a>) -> Option<(&'a [u8], Cause)> {
+fn cause_of<'a>(which: OutsideObject, outside: &Outside<'a>) -> Option<(&'a [u8], Cause)> {
     match which {
-        Which::Tree => outside.tree.cause(),
-        Which::Disk => outside.disk.disk.cause(),
-        Which::Start => outside.children.procs.start_cause(),
-        Which::Child => lost_child(outside.children),
-        Which::Out => of("standard output", outside.out.cause()),
-        Which::Report => outside.reports.cause(),
-        Which::Input => of("standard input", outside.input.cause()),
+        OutsideObject::Tree => outside.tree.cause(),
+        OutsideObject::Disk => outside.disk.disk.cause(),
+        OutsideObject::Start => outside.children.procs.start_cause(),
+        OutsideObject::Child => lost_child(outside.children),
+        OutsideObject::Out => of("standard output", outside.out.cause()),
+        OutsideObject::Report => outside.reports.cause(),
+        OutsideObject::Input => of("standard input", outside.input.cause()),
     }
 }
 

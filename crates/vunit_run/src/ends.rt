@@ -3,18 +3,15 @@
 use crate::causes::{Children, Watched};
 use crate::modes::{Mode, is_child};
 use base::{NoMemory, ProjectFault, TextList};
-use base_outcomes::{Outcome, Refusal, Which};
-use run_command_line::{Setting, read_words};
-use run_hints::{
-    push_child_said, push_counts, push_failed, push_line, push_no_test, push_own_compiler,
-    push_own_simulator, push_unread, push_words,
-};
-use system_locks::lock_holder;
-use system_progress::Counts;
+use base_outcomes::{Outcome, OutsideObject, Refusal};
+use system_children::Counts;
+use system_files::lock_holder;
+use vunit_arguments::{Setting, read_arguments};
 use vunit_hints::{
-    ProjectText, project_text, push_linked_folders, push_pattern_cause, push_unmatched, read_again,
+    ProjectText, project_text, push_child_said, push_counts, push_failed, push_line,
+    push_linked_folders, push_no_test, push_own_compiler, push_own_simulator, push_pattern_cause,
+    push_source_locations, push_unmatched, push_unread, push_words, read_again,
 };
-use vunit_sources::push_source_places;
 
 /// The file of the store that a run locks.
 const LOCKED_FILE: &str = "vunit_out/store_a";
@@ -47,7 +44,7 @@ fn push_records(
     let Some(unread) = disk.unread() else {
         return Ok(());
     };
-    match read_words(rt.alloc(), words) {
+    match read_arguments(rt.alloc(), words) {
         Ok(setting) if setting.clean => Ok(()),
         _ => push_unread(rt.alloc(), lines, &unread),
     }
@@ -63,7 +60,7 @@ fn push_all(
     if is_child(words) {
         return Ok(());
     }
-    let Ok(setting) = read_words(rt.alloc(), words) else {
+    let Ok(setting) = read_arguments(rt.alloc(), words) else {
         return match outcome {
             Outcome::BadWords => push_words(rt.alloc(), lines, words),
             _ => Ok(()),
@@ -93,16 +90,16 @@ fn push_all(
 fn push_fault(
     rt: &HostRuntime,
     lines: &mut Vec<Vec<u8>>,
-    which: Which,
+    which: OutsideObject,
     setting: &Setting,
     mode: Mode,
     children: &Children,
 ) -> Result<(), NoMemory> {
     let alloc = rt.alloc();
-    if let (Which::Start, Some(said)) = (which, children.procs.start_said()) {
+    if let (OutsideObject::Start, Some(said)) = (which, children.procs.start_said()) {
         push_child_said(alloc, lines, said)?;
     }
-    if which == Which::Disk {
+    if which == OutsideObject::Disk {
         push_holder(rt, lines)?;
     }
     if !mode.is_run {
@@ -139,7 +136,7 @@ fn push_refusal(
         } => push_pattern_cause(rt, lines, pattern.bytes())?,
         _ => {}
     }
-    push_source_places(rt, lines, refusal)?;
+    push_source_locations(rt, lines, refusal)?;
     match project_text(rt) {
         Some(project) => project.push_unknown(rt.alloc(), lines),
         None => Ok(()),

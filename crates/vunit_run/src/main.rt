@@ -3,32 +3,30 @@
 
 mod causes;
 mod ends;
+mod locations;
 mod modes;
-mod places;
 mod words;
 
 use crate::causes::{Outside, Watched, fault_cause};
 use crate::ends::end_lines;
-use crate::places::refusal_place;
+use crate::locations::refusal_location;
 use crate::words::words;
 use base::{NoMemory, TextList};
-use base_outcomes::{Outcome, Which};
-use report_run::status_of;
-use run_command_line::read_words;
+use base_outcomes::{Outcome, OutsideObject};
+use report::exit_status_of;
 use std::env;
 use std::io::IsTerminal;
 use std::process::ExitCode;
-use system_children::ChildProcs;
-use system_disk::{FileDisk, STORE_NAMES};
-use system_files::{FileTree, OUTPUT_FOLDER, StdSink, StdSource};
-use system_messages::{Messages, shorten_line};
-use system_progress::{Manner, Teller, ToldProcs};
-use system_records::WatchedDisk;
-use system_reports::{FileReports, Spared};
+use system_children::{ChildProcs, Manner, Teller, ToldProcs};
+use system_files::{
+    FileDisk, FileReports, FileTree, Messages, OUTPUT_FOLDER, ProtectedFiles, STORE_NAMES, StdSink,
+    StdSource, WatchedDisk, shorten_line,
+};
+use vunit_arguments::read_arguments;
 use vunit_top::run_vunit;
 
-/// The store, which no report may take the place of.
-static STORE: Spared = Spared {
+/// The store, which no report may take the location of.
+static STORE: ProtectedFiles = ProtectedFiles {
     folder: OUTPUT_FOLDER,
     names: STORE_NAMES,
 };
@@ -71,18 +69,18 @@ fn main(rt: HostRuntime) -> ExitCode {
         messages.say_at_end(line.as_slice());
     }
     messages.finish();
-    ExitCode::from(status_of(&outcome))
+    ExitCode::from(exit_status_of(&outcome))
 }
 
-fn fault_line(which: Which) -> &'static [u8] {
+fn fault_line(which: OutsideObject) -> &'static [u8] {
     match which {
-        Which::Tree => b"vunit_run: fault of tree\n",
-        Which::Disk => b"vunit_run: fault of disk\n",
-        Which::Start => b"vunit_run: fault of start\n",
-        Which::Child => b"vunit_run: fault of child\n",
-        Which::Out => b"vunit_run: fault of out\n",
-        Which::Report => b"vunit_run: fault of report\n",
-        Which::Input => b"vunit_run: fault of input\n",
+        OutsideObject::Tree => b"vunit_run: fault of tree\n",
+        OutsideObject::Disk => b"vunit_run: fault of disk\n",
+        OutsideObject::Start => b"vunit_run: fault of start\n",
+        OutsideObject::Child => b"vunit_run: fault of child\n",
+        OutsideObject::Out => b"vunit_run: fault of out\n",
+        OutsideObject::Report => b"vunit_run: fault of report\n",
+        OutsideObject::Input => b"vunit_run: fault of input\n",
     }
 }
 
@@ -169,7 +167,7 @@ fn run_over(
     };
     let cause = match &outcome {
         Outcome::OutsideFault(which) => fault_cause(rt.alloc(), *which, &outside),
-        Outcome::Refused(refusal) => refusal_place(&rt, refusal),
+        Outcome::Refused(refusal) => refusal_location(&rt, refusal),
         _ => None,
     };
     let lines = end_lines(&rt, words, &outcome, cause, &children, disk);
@@ -182,7 +180,7 @@ fn run_over(
 
 /// How standard error is told: whether it is a terminal, and whether the words want it quiet.
 fn manner(rt: &HostRuntime, words: &TextList) -> Manner {
-    let is_quiet = match read_words(rt.alloc(), words) {
+    let is_quiet = match read_arguments(rt.alloc(), words) {
         Ok(setting) => setting.quiet,
         Err(_) => false,
     };

@@ -1,7 +1,7 @@
 //! What a run is to do, as far as standard error goes by it.
 
 use base::{MaybeText, TextList};
-use run_command_line::Setting;
+use vunit_arguments::Setting;
 
 /// The mode of a run.
 #[derive(Clone, Copy)]

@@ -8,29 +8,29 @@ use Rattle.base.specs.declared.child.Event.{Event}
 use Rattle.base.specs.declared.child.MaybeText.TheVariants.{Given, Nothing}
 use Rattle.base_outcomes.specs.declared.outcome.Outcome.{Outcome}
 use Rattle.base_outcomes.specs.declared.outcome.Outcome.TheVariants as outcome
-use Rattle.base_outcomes.specs.declared.outcome.Which.TheVariants as which
+use Rattle.base_outcomes.specs.declared.outcome.OutsideObject.TheVariants as which
 use Rattle.outside.specs.Disks.{Moments, AreSound}
 use Rattle.outside.specs.FaultCounts.{RunFaultCounts}
 use Rattle.run_spec.specs.ChildJournal.{EachAfter, since}
 use Rattle.run_spec.specs.JournalParts.{compile_part, test_part, is_given}
-use Rattle.run_histories.specs.Histories.{Order, work_over}
-use Rattle.run_steps.specs.declared.fault.RunFault.TheVariants as fault
+use Rattle.run_spec.specs.Histories.{Order, work_over}
+use Rattle.run_spec.specs.declared.fault.RunFault.TheVariants as fault
 use Rattle.run_build.proofs.OverStore.{no_test_since, since_itself}
-use Rattle.test_journal.specs.TestJournal.{LawfulTests}
-use Rattle.run_tested.specs.Tested.{setting_after}
-use Rattle.run_tested_laws.specs.Histories.{HasTested}
-use Rattle.run_tested_laws.specs.Rights.{AreRightTests, clean_setting}
-use Rattle.run_tested_laws.proofs.TestedRights.{lawful_right, no_tests}
+use Rattle.run_spec.specs.TestJournal.{LawfulTests}
+use Rattle.run_tests.specs.Tested.{setting_after}
+use Rattle.run_tests.specs.Histories.{HasTested}
+use Rattle.run_tests.specs.Rights.{AreRightTests, clean_setting}
+use Rattle.run_tests.proofs.TestedRights.{lawful_right, no_tests}
 use Rattle.vunit_top.specs.Store.{records_in_image}
-use Rattle.report_run.specs.Outcomes.{build_outcome}
+use Rattle.report.specs.Outcomes.{build_outcome}
 use Rattle.vhdl_spec.specs.Scans.{Finding}
 use Rattle.project_reading.specs.Reading.{SourceReading}
 use Rattle.project_reading.specs.declared.stops.ReadStop.{ReadStop}
 use Rattle.project_reading.specs.declared.stops.ReadStop.TheVariants as stop
-use Rattle.vunit_top.specs.declared.words.Job.{Job}
-use Rattle.vunit_top.specs.Acts.{Object, Disk, Children, Out, Reports, Seen, seen, run_between, marks_between, said_between, tests_since, Acts, RunsTests}
+use Rattle.vunit_top.specs.declared.words.Task.{Task}
+use Rattle.vunit_top.specs.Acts.{Object, Disk, Children, Out, Reports, Seen, seen, run_between, statuses_between, said_between, tests_since, Acts, RunsTests}
 use Rattle.vunit_top.specs.Ends.{StopCounts, Writes, WritesReport}
-use Rattle.project_reading.specs.declared.wish.Wish.{Wish}
+use Rattle.project_reading.specs.declared.query.Query.{Query}
 use Rattle.vunit_top.specs.Reading.{Reading, Testing, Exports, Builds, Runs, full_reading}
 use Rattle.run_build.specs.Building.{has_risen}
 use Rattle.vunit_top.specs.Runs.{RunsAs}
@@ -115,7 +115,7 @@ module _ (tells same : Object → Type 0) (scan : List ℕ → Finding) (answer 
     unreported = reports;
     silent = out;
     says_plain = plain;
-    says_build = λ d c o order warnings is. build o order warnings is (build_said warnings order.graph (marks_between order (seen journal moments failures put report) (seen journal moments failures now after)));
+    says_build = λ d c o order warnings is. build o order warnings is (build_said warnings order.graph (statuses_between order (seen journal moments failures put report) (seen journal moments failures now after)));
     answers = λ d c order warnings is said. absurd (none-some order (sym (unordered (said_ended result said)) ∙ ap order_of is));
     runs = λ asked is.
         idle_tests tells answer asked result journal moments failures put now report after (λ ended. none-some asked.order (sym (unordered ended) ∙ ap order_of is))
@@ -171,8 +171,8 @@ module _ (tells same : Object → Type 0) (scan : List ℕ → Finding) (answer 
   -- one that builds
   pub acts_built : (order : Order) (warnings : List ℕ) (words : List (List ℕ)) (result : Outcome) (before after : Seen) → same Reports →
       (tells Disk → tells Children → RunsAs scan answer (Builds order warnings) (run_between words result before after) before.moments.now after.moments.now) →
-      (tells Disk → tells Children → tells Out → Says result (build_said warnings order.graph (marks_between order before after)) before.put after.put) →
-      (tells Disk → tells Children → IsSaid result → result ≡ build_outcome order.graph (marks_between order before after)) → (tells Children → tests_since before after ≡ []) →
+      (tells Disk → tells Children → tells Out → Says result (build_said warnings order.graph (statuses_between order before after)) before.put after.put) →
+      (tells Disk → tells Children → IsSaid result → result ≡ build_outcome order.graph (statuses_between order before after)) → (tells Children → tests_since before after ≡ []) →
       Acts tells same scan answer (Builds order warnings) words result before after
   acts_built order warnings words result before after reports ran says answers untested = record {
     ran = ran;
@@ -183,9 +183,9 @@ module _ (tells same : Object → Type 0) (scan : List ℕ → Finding) (answer 
     runs = λ asked is. absurd (plan_none asked (sym (ap plan_in is)));
     untested = λ c none. untested c;
     says_build = λ d c o other more is.
-        subst (λ (w : List ℕ). Says result (build_said w other.graph (marks_between other before after)) before.put after.put) (same_warnings order other warnings more is)
-        (subst (λ (b : Order). Says result (build_said warnings b.graph (marks_between b before after)) before.put after.put) (same_order order other warnings more is) (says d c o));
-    answers = λ d c other more is. subst (λ (b : Order). IsSaid result → result ≡ build_outcome b.graph (marks_between b before after)) (same_order order other warnings more is) (answers d c);
+        subst (λ (w : List ℕ). Says result (build_said w other.graph (statuses_between other before after)) before.put after.put) (same_warnings order other warnings more is)
+        (subst (λ (b : Order). Says result (build_said warnings b.graph (statuses_between b before after)) before.put after.put) (same_order order other warnings more is) (says d c o));
+    answers = λ d c other more is. subst (λ (b : Order). IsSaid result → result ≡ build_outcome b.graph (statuses_between b before after)) (same_order order other warnings more is) (answers d c);
     writes = λ w path text is. absurd (nothing-given path (ap report_path_of is));
   }
 
@@ -206,9 +206,9 @@ module _ (tells same : Object → Type 0) (scan : List ℕ → Finding) (answer 
   }
 
   -- what a run did, where its words are said in two ways
-  pub acts_by : {words : List (List ℕ)} {result : Outcome} {before after : Seen} (j k : Result Job Reading) (s : Wish → SourceReading) → j ≡ k → Acts tells same scan answer (full_reading k s) words result before after →
+  pub acts_by : {words : List (List ℕ)} {result : Outcome} {before after : Seen} (j k : Result Task Reading) (s : Query → SourceReading) → j ≡ k → Acts tells same scan answer (full_reading k s) words result before after →
       Acts tells same scan answer (full_reading j s) words result before after
-  acts_by {words} {result} {before} {after} j k s is acts = subst (λ (i : Result Job Reading). Acts tells same scan answer (full_reading i s) words result before after) (sym is) acts
+  acts_by {words} {result} {before} {after} j k s is acts = subst (λ (i : Result Task Reading). Acts tells same scan answer (full_reading i s) words result before after) (sym is) acts
 
 -- counts that a run leaves at 0 aren't the cause of its answer
 pub no_early : {result : Outcome} {old new : RunFaultCounts} → IsAccounted result old new → new.tree ≡ 0 → new.input ≡ 0 → (result ≡ outcome.OutsideFault which.Tree) ⊎ (result ≡ outcome.OutsideFault which.Input) → ⊥

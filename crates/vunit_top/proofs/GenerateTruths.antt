@@ -5,7 +5,7 @@ use Rattle.base.specs.declared.child.Exit.{Exit}
 use Rattle.base.specs.declared.child.Event.{Event}
 use Rattle.base_outcomes.specs.declared.outcome.Outcome.TheVariants as outcome
 use Rattle.run_spec.specs.ChildJournal.{since}
-use Rattle.run_steps.specs.declared.fault.RunFault.TheVariants as fault
+use Rattle.run_spec.specs.declared.fault.RunFault.TheVariants as fault
 use Rattle.run_build.proofs.OverStore.{since_itself}
 use Rattle.vhdl_spec.specs.Scans.{Finding}
 use Rattle.generated_runs.specs.declared.options.GenerateOptions.{GenerateOptions}

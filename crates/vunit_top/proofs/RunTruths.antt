@@ -7,7 +7,7 @@ use Rattle.base.specs.declared.graph.Entry.{Entry}
 use Rattle.base.specs.declared.child.Request.{Request}
 use Rattle.base.specs.declared.child.Exit.{Exit}
 use Rattle.base.specs.declared.child.Event.{Event}
-use Rattle.run_spec.specs.declared.marks.Mark.{Mark}
+use Rattle.run_spec.specs.declared.statuses.FileStatus.{FileStatus}
 use Rattle.base_outcomes.specs.declared.outcome.Refusal.TheVariants as refusal
 use Rattle.base_outcomes.specs.declared.outcome.Outcome.{Outcome}
 use Rattle.base_outcomes.specs.declared.outcome.Outcome.TheVariants as outcome
@@ -22,20 +22,20 @@ use Rattle.run_spec.specs.Commits.{commits, Waits}
 use Rattle.run_spec.specs.JournalParts.{compile_part}
 use Rattle.outside.specs.Phases.{HasPhases}
 use Rattle.run_spec.specs.Faithful.{IsFaithfulDisk}
-use Rattle.run_histories.specs.Histories.{Order, World, ProgramRun, empty_image, IsReadable, IsIdleRun, RunStep, work_over}
-use Rattle.run_spec.specs.Marks.{marks_of, is_refused, refused_files}
+use Rattle.run_spec.specs.Histories.{Order, World, ProgramRun, empty_image, IsReadable, IsIdleRun, RunStep, work_over}
+use Rattle.run_spec.specs.Statuses.{statuses_of, is_refused, refused_files}
 use Rattle.run_spec.proofs.Parts.{build_parts}
 use Rattle.run_laws.proofs.JournalSettled.{all_started, all_steady, all_files_made}
 use Rattle.run_laws.specs.Rights.{IsRightStep}
 use Rattle.run_laws.proofs.RightRuns.{run_right}
-use Rattle.run_steps.specs.declared.fault.RunFault.{RunFault}
-use Rattle.run_steps.specs.declared.fault.RunFault.TheVariants as fault
-use Rattle.report_run.specs.Outcomes.{build_outcome}
+use Rattle.run_spec.specs.declared.fault.RunFault.{RunFault}
+use Rattle.run_spec.specs.declared.fault.RunFault.TheVariants as fault
+use Rattle.report.specs.Outcomes.{build_outcome}
 use Rattle.vhdl_spec.specs.Scans.{Finding}
 use Rattle.vunit_top.specs.Store.{IsRestingDisk, records_in_image}
 use Rattle.run_build.specs.Orders.{IsDurablyRecorded}
-use Rattle.store_requests.specs.Stored.{IsResting}
-use Rattle.store_requests.proofs.RequestsAdded.{none_in_empty}
+use Rattle.store.specs.Stored.{IsResting}
+use Rattle.store.proofs.RequestsAdded.{none_in_empty}
 use Rattle.vunit_top.specs.Reading.{Reading, Builds}
 use Rattle.vunit_top.specs.Said.{IsSaid, HasEnded, HasBuilt, no_order, order_of, order_in}
 use Rattle.run_build.specs.Building.{BuildsOver, RestsOver}
@@ -73,10 +73,10 @@ built_said (outcome.OverLimit limit) is = absurd is
 built_said (outcome.Child code) is = absurd is
 
 -- a build all of whose files are made has no refused file
-pub built_refuses_none : (graph : List Entry) (marks : List Mark) (said : Outcome) → HasBuilt said → said ≡ build_outcome graph marks → list_any is_refused marks ≡ false
-built_refuses_none graph marks said built is =
-    elim (cases_Bool (list_any is_refused marks)) [
-      | inl refused ↦ absurd (subst HasBuilt (is ∙ cond-true (list_any is_refused marks) (outcome.Refused (refusal.Compiler (refused_files graph marks))) outcome.Done refused) built)
+pub built_refuses_none : (graph : List Entry) (statuses : List FileStatus) (said : Outcome) → HasBuilt said → said ≡ build_outcome graph statuses → list_any is_refused statuses ≡ false
+built_refuses_none graph statuses said built is =
+    elim (cases_Bool (list_any is_refused statuses)) [
+      | inl refused ↦ absurd (subst HasBuilt (is ∙ cond-true (list_any is_refused statuses) (outcome.Refused (refusal.Compiler (refused_files graph statuses))) outcome.Done refused) built)
       | inr none ↦ none
     ]
 
@@ -92,7 +92,7 @@ writes_nothing {T} {F} result old new ended ends rests = record {
   same = λ is. subst (λ (r : Result T F). OnOk r (new.now ≡ settled_disk (reads_of old.now))) (ends is).1 rests.same;
 }
 
-module _ (scan : List ℕ → Finding) (answer : Request → Exit) (order : Order) (warnings : List ℕ) (result : Result (List Mark) RunFault) (failed : Bool) (old new : Moments) (sound : AreSound old) (events : List Event)
+module _ (scan : List ℕ → Finding) (answer : Request → Exit) (order : Order) (warnings : List ℕ) (result : Result (List FileStatus) RunFault) (failed : Bool) (old new : Moments) (sound : AreSound old) (events : List Event)
     (over : BuildsOver records_in_image answer order result failed old new events) (words : List (List ℕ)) (said : Outcome) where
   abbrev s : Work
   s = work_over records_in_image order old.now
@@ -120,18 +120,18 @@ module _ (scan : List ℕ → Finding) (answer : Request → Exit) (order : Orde
       all = λ disk memory. moved (λ l. over.acknowledged ≡ length (commits s l)) (over.all disk (λ is. memory (no_memory is)));
     })
 
-    pub runs_over : (HasEnded said → (marks : List Mark) × (result ≡ Ok marks)) → (HasBuilt said → list_any is_refused (marks_of s events) ≡ false) →
+    pub runs_over : (HasEnded said → (statuses : List FileStatus) × (result ≡ Ok statuses)) → (HasBuilt said → list_any is_refused (statuses_of s events) ≡ false) →
         (order.clean ≡ false → IsRestingDisk old.now → commits s events ≡ [] → WritesNothing (HasEnded said) old.now (added_since old new) new.now) → RunsAs scan answer (Builds order warnings) run old.now new.now
     runs_over ends done rests =
-        let whole : HasEnded said → IsWhole s events = λ is. subst (λ (r : Result (List Mark) RunFault). OnOk r (IsWhole s events)) (ends is).1 over.whole in
+        let whole : HasEnded said → IsWhole s events = λ is. subst (λ (r : Result (List FileStatus) RunFault). OnOk r (IsWhole s events)) (ends is).1 over.whole in
         record {
           step = build_step;
           ends = last_is old new over.follows;
           whole = λ is. moved (λ l. IsWhole s l) (whole is);
           recorded = λ is. moved (λ l. (position : ℕ) → position < length order.graph → is_some (artefact_after s l position) ≡ true → IsDurablyRecorded records_in_image new.now order.graph position)
-              (subst (λ (r : Result (List Mark) RunFault). OnOk r ((position : ℕ) → position < length order.graph → is_some (artefact_after s events position) ≡ true → IsDurablyRecorded records_in_image new.now order.graph position)) (ends is).1 over.recorded);
+              (subst (λ (r : Result (List FileStatus) RunFault). OnOk r ((position : ℕ) → position < length order.graph → is_some (artefact_after s events position) ≡ true → IsDurablyRecorded records_in_image new.now order.graph position)) (ends is).1 over.recorded);
           emptied = λ is. moved (λ l. order.clean ≡ true → EachImage (λ image. records_in_image image ≡ commits s l) new.now)
-              (subst (λ (r : Result (List Mark) RunFault). OnOk r (order.clean ≡ true → EachImage (λ image. records_in_image image ≡ commits s events) new.now)) (ends is).1 over.emptied);
+              (subst (λ (r : Result (List FileStatus) RunFault). OnOk r (order.clean ≡ true → EachImage (λ image. records_in_image image ≡ commits s events) new.now)) (ends is).1 over.emptied);
           rests = λ clean resting none. rests clean resting (ap (commits s) (sym compiled) ∙ none);
           right = right_step scan answer (Some order) run old.now (readable_now old sound) build_step;
           exact = λ is none. record {
@@ -139,28 +139,28 @@ module _ (scan : List ℕ → Finding) (answer : Request → Exit) (order : Orde
             steady = all_steady answer s over.graph_form (compile_part events) (moved (λ l. IsWhole s l) (whole is)) (moved (λ l. Answered answer l) over.answered) none;
           };
           made = λ is. all_files_made answer s over.graph_form (compile_part events) (moved (λ l. IsWhole s l) (whole (built_ended said is))) (moved (λ l. Answered answer l) over.answered)
-              (moved (λ l. list_any is_refused (marks_of s l) ≡ false) (done is));
+              (moved (λ l. list_any is_refused (statuses_of s l) ≡ false) (done is));
         }
 
--- the marks of a build are those of what its compilers did
-pub marked_over : (answer : Request → Exit) (order : Order) (marks : List Mark) (failed : Bool) (old new : Moments) (events : List Event) → BuildsOver records_in_image answer order (Ok marks) failed old new events → marks ≡ marks_of (work_over records_in_image order old.now) (compile_part events)
-marked_over answer order marks failed old new events over = over.marks ∙ ap (marks_of (work_over records_in_image order old.now)) (sym (build_parts (work_over records_in_image order old.now) events over.lawful).0)
+-- the statuses of a build are those of what its compilers did
+pub has_status_over : (answer : Request → Exit) (order : Order) (statuses : List FileStatus) (failed : Bool) (old new : Moments) (events : List Event) → BuildsOver records_in_image answer order (Ok statuses) failed old new events → statuses ≡ statuses_of (work_over records_in_image order old.now) (compile_part events)
+has_status_over answer order statuses failed old new events over = over.statuses ∙ ap (statuses_of (work_over records_in_image order old.now)) (sym (build_parts (work_over records_in_image order old.now) events over.lawful).0)
 
 -- a run whose build ended by itself
-pub ended_over : (scan : List ℕ → Finding) (answer : Request → Exit) (order : Order) (warnings : List ℕ) (marks : List Mark) (failed : Bool) (old new : Moments) → AreSound old → (events : List Event) → BuildsOver records_in_image answer order (Ok marks) failed old new events → (words : List (List ℕ)) (said : Outcome)
-    → (IsSaid said → said ≡ build_outcome order.graph marks) → RestsOver {T = List Mark} {E = RunFault} records_in_image (λ image. IsResting image) order (Ok marks) old new events → RunsAs scan answer (Builds order warnings) (run_of words said failed events (added_since old new)) old.now new.now
-ended_over scan answer order warnings marks failed old new sound events over words said answered rests =
-    runs_over scan answer order warnings (Ok marks) failed old new sound events over words said (λ is. let nothing : ⊥ = cc in absurd nothing) (λ is. (marks, refl)) (λ is.
-    subst (λ (m : List Mark). list_any is_refused m ≡ false) over.marks (built_refuses_none order.graph marks said is (answered (built_said said is))))
-    (λ clean resting none. writes_nothing {T = List Mark} {F = RunFault} (Ok marks) old new (HasEnded said) (λ is. (marks, refl)) (rests clean resting none))
+pub ended_over : (scan : List ℕ → Finding) (answer : Request → Exit) (order : Order) (warnings : List ℕ) (statuses : List FileStatus) (failed : Bool) (old new : Moments) → AreSound old → (events : List Event) → BuildsOver records_in_image answer order (Ok statuses) failed old new events → (words : List (List ℕ)) (said : Outcome)
+    → (IsSaid said → said ≡ build_outcome order.graph statuses) → RestsOver {T = List FileStatus} {E = RunFault} records_in_image (λ image. IsResting image) order (Ok statuses) old new events → RunsAs scan answer (Builds order warnings) (run_of words said failed events (added_since old new)) old.now new.now
+ended_over scan answer order warnings statuses failed old new sound events over words said answered rests =
+    runs_over scan answer order warnings (Ok statuses) failed old new sound events over words said (λ is. let nothing : ⊥ = cc in absurd nothing) (λ is. (statuses, refl)) (λ is.
+    subst (λ (m : List FileStatus). list_any is_refused m ≡ false) over.statuses (built_refuses_none order.graph statuses said is (answered (built_said said is))))
+    (λ clean resting none. writes_nothing {T = List FileStatus} {F = RunFault} (Ok statuses) old new (HasEnded said) (λ is. (statuses, refl)) (rests clean resting none))
 
 -- a run whose build had a fault
 pub faulted_over : (scan : List ℕ → Finding) (answer : Request → Exit) (order : Order) (warnings : List ℕ) (why : RunFault) (failed : Bool) (old new : Moments) → AreSound old → (events : List Event) → BuildsOver records_in_image answer order (Err why) failed old new events → (words : List (List ℕ)) (said : Outcome)
-    → (HasEnded said → ⊥) → (why ≡ fault.NoMemory → said ≡ outcome.NoMemory) → RestsOver {T = List Mark} records_in_image (λ image. IsResting image) order (Err why) old new events → RunsAs scan answer (Builds order warnings) (run_of words said failed events (added_since old new)) old.now new.now
+    → (HasEnded said → ⊥) → (why ≡ fault.NoMemory → said ≡ outcome.NoMemory) → RestsOver {T = List FileStatus} records_in_image (λ image. IsResting image) order (Err why) old new events → RunsAs scan answer (Builds order warnings) (run_of words said failed events (added_since old new)) old.now new.now
 faulted_over scan answer order warnings why failed old new sound events over words said fails memory rests =
     runs_over scan answer order warnings (Err why) failed old new sound events over words said (λ is. memory (same_fault why is)) (λ is. absurd (fails is)) (λ is. absurd (fails (built_ended said is)))
-    (λ clean resting none. writes_nothing {T = List Mark} (Err why) old new (HasEnded said) (λ is. absurd (fails is)) (rests clean resting none)) where
-      same_fault : (why : RunFault) → ◌≡◌ {A = Result (List Mark) RunFault} (Err why) (Err fault.NoMemory) → why ≡ fault.NoMemory
+    (λ clean resting none. writes_nothing {T = List FileStatus} (Err why) old new (HasEnded said) (λ is. absurd (fails is)) (rests clean resting none)) where
+      same_fault : (why : RunFault) → ◌≡◌ {A = Result (List FileStatus) RunFault} (Err why) (Err fault.NoMemory) → why ≡ fault.NoMemory
       same_fault why is = cc
 
 -- a run that did nothing

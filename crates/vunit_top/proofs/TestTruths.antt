@@ -9,8 +9,8 @@ use Rattle.base.specs.declared.graph.Entry.{Entry}
 use Rattle.base.specs.declared.child.Request.{Request}
 use Rattle.base.specs.declared.child.Exit.{Exit}
 use Rattle.base.specs.declared.child.Event.{Event}
-use Rattle.run_spec.specs.declared.marks.Mark.{Mark}
-use Rattle.run_spec.specs.declared.marks.Mark.TheVariants as mark
+use Rattle.run_spec.specs.declared.statuses.FileStatus.{FileStatus}
+use Rattle.run_spec.specs.declared.statuses.FileStatus.TheVariants as status
 use Rattle.base_outcomes.specs.declared.outcome.Outcome.{Outcome}
 use Rattle.base_outcomes.specs.declared.outcome.Outcome.TheVariants as outcome
 use Rattle.outside.specs.Disks.{Moments, AreSound, Rests, added_since, reads_of}
@@ -18,33 +18,33 @@ use Rattle.run_spec.specs.ChildJournal.{Work, since}
 use Rattle.run_spec.specs.JournalParts.{compile_part, test_part}
 use Rattle.run_spec.specs.Commits.{commits}
 use Rattle.run_spec.specs.Faithful.{IsFaithfulDisk}
-use Rattle.run_spec.specs.Marks.{marks_of, is_refused}
+use Rattle.run_spec.specs.Statuses.{statuses_of, is_refused}
 use Rattle.run_spec.proofs.Parts.{build_parts}
-use Rattle.run_histories.specs.Histories.{ProgramRun, work_over}
+use Rattle.run_spec.specs.Histories.{ProgramRun, work_over}
 use Rattle.outside.specs.Disks.{DiskState}
 use Rattle.outside.specs.FaultCounts.{BuildFaultCounts, NoBuildCountFell, RunFaultCounts}
-use Rattle.run_steps.specs.Faults.{Explains}
-use Rattle.build_loop.specs.Ran.{is_made}
-use Rattle.run_steps.specs.declared.fault.RunFault.{RunFault}
-use Rattle.run_steps.specs.declared.fault.RunFault.TheVariants as fault
+use Rattle.run_spec.specs.Faults.{Explains}
+use Rattle.run_build.specs.Ran.{is_made}
+use Rattle.run_spec.specs.declared.fault.RunFault.{RunFault}
+use Rattle.run_spec.specs.declared.fault.RunFault.TheVariants as fault
 use Rattle.vhdl_spec.specs.Scans.{Finding}
-use Rattle.test_spec.specs.declared.runs.TestRun.{TestRun}
-use Rattle.test_spec.specs.declared.ends.TestEnd.{TestEnd}
-use Rattle.test_spec.specs.declared.ends.RunEnd.{RunEnd}
-use Rattle.test_journal.specs.TestJournal.{TestSetting, IsWholeTests}
-use Rattle.test_loop.specs.Results.{test_ends}
+use Rattle.testbench_runs.specs.declared.runs.TestRun.{TestRun}
+use Rattle.testbench_runs.specs.declared.ends.TestEnd.{TestEnd}
+use Rattle.testbench_runs.specs.declared.ends.RunEnd.{RunEnd}
+use Rattle.run_spec.specs.TestJournal.{TestSetting, IsWholeTests}
+use Rattle.run_tests.specs.Results.{test_ends}
 use Rattle.run_build.specs.Building.{RestsOver}
-use Rattle.run_tested.specs.declared.testing.Tested.{Tested}
-use Rattle.run_tested.specs.Tested.{SaysTests, TestsOver, setting_after}
-use Rattle.run_tested_laws.specs.Histories.{HasTested}
-use Rattle.run_tested_laws.specs.Rights.{AreRightTests}
-use Rattle.run_tested_laws.proofs.TestedRights.{tests_right}
-use Rattle.report_tested.specs.declared.said.RunSaid.{RunSaid}
-use Rattle.report_tested.specs.declared.said.TestWords.{TestWords}
-use Rattle.report_tested.specs.Said.{run_said}
-use Rattle.store_requests.specs.Stored.{IsResting}
+use Rattle.run_tests.specs.declared.build_and_test.Tested.{Tested}
+use Rattle.run_tests.specs.Tested.{SaysTests, TestsOver, setting_after}
+use Rattle.run_tests.specs.Histories.{HasTested}
+use Rattle.run_tests.specs.Rights.{AreRightTests}
+use Rattle.run_tests.proofs.TestedRights.{tests_right}
+use Rattle.report.specs.declared.said.RunSaid.{RunSaid}
+use Rattle.report.specs.declared.said.TestWords.{TestWords}
+use Rattle.report.specs.Said.{run_said}
+use Rattle.store.specs.Stored.{IsResting}
 use Rattle.vunit_top.specs.Store.{records_in_image}
-use Rattle.vunit_top.specs.Acts.{Object, Disk, Children, Out, Reports, Seen, RunsTests, marks_between, setting_between, tests_since, said_between}
+use Rattle.vunit_top.specs.Acts.{Object, Disk, Children, Out, Reports, Seen, RunsTests, statuses_between, setting_between, tests_since, said_between}
 use Rattle.vunit_top.specs.Ends.{WritesReport}
 use Rattle.vunit_top.specs.Reading.{Testing, Builds, Runs}
 use Rattle.vunit_top.specs.Runs.{RunsAs, WritesNothing, run_of}
@@ -52,13 +52,13 @@ use Rattle.vunit_top.specs.Said.{Causes, IsAccounted, IsSaid, HasEnded, HasBuilt
 use Rattle.vunit_top.proofs.RunTruths.{built_refuses_none, built_said, readable_now, runs_over, writes_nothing}
 
 -- files that are made aren't refused
-made_refuses_none : (marks : List Mark) → list_all is_made marks ≡ true → list_any is_refused marks ≡ false
+made_refuses_none : (statuses : List FileStatus) → list_all is_made statuses ≡ true → list_any is_refused statuses ≡ false
 made_refuses_none [] made = refl
-made_refuses_none (mark.Fresh ∷ marks) made = made_refuses_none marks made
-made_refuses_none (mark.Compiled ∷ marks) made = made_refuses_none marks made
-made_refuses_none (mark.Refused code output ∷ marks) made = absurd (false≢true made)
-made_refuses_none (mark.Skipped ∷ marks) made = absurd (false≢true made)
-made_refuses_none (mark.Left ∷ marks) made = absurd (false≢true made)
+made_refuses_none (status.Fresh ∷ statuses) made = made_refuses_none statuses made
+made_refuses_none (status.Compiled ∷ statuses) made = made_refuses_none statuses made
+made_refuses_none (status.Refused code output ∷ statuses) made = absurd (false≢true made)
+made_refuses_none (status.Skipped ∷ statuses) made = absurd (false≢true made)
+made_refuses_none (status.Left ∷ statuses) made = absurd (false≢true made)
 
 -- what is said of tests is what became of them, where all files are made
 ends_said : (setting : TestSetting) (made : Bool) (tests : Option TestEnd) (events : List Event) → SaysTests setting made tests events → tests ≡ (if made then Some (record { runs = test_ends setting events }) else None)
@@ -70,10 +70,10 @@ whole_if setting made None events says is = absurd (false≢true (sym says ∙ i
 whole_if setting made (Some end) events says is = says.1
 
 -- a run that is done, or whose tests failed, has no refused file
-none_refused : (setting : TestSetting) (warnings : List ℕ) (graph : List Entry) (marks : List Mark) (runs : List TestRun) (words : TestWords) (tests : Option TestEnd) (events : List Event) (said : Outcome) → SaysTests setting (list_all is_made marks) tests events → HasBuilt said →
-    said ≡ (run_said warnings graph marks runs words tests).outcome → list_any is_refused marks ≡ false
-none_refused setting warnings graph marks runs words None events said says built is = built_refuses_none graph marks said built is
-none_refused setting warnings graph marks runs words (Some end) events said says built is = made_refuses_none marks says.0
+none_refused : (setting : TestSetting) (warnings : List ℕ) (graph : List Entry) (statuses : List FileStatus) (runs : List TestRun) (words : TestWords) (tests : Option TestEnd) (events : List Event) (said : Outcome) → SaysTests setting (list_all is_made statuses) tests events → HasBuilt said →
+    said ≡ (run_said warnings graph statuses runs words tests).outcome → list_any is_refused statuses ≡ false
+none_refused setting warnings graph statuses runs words None events said says built is = built_refuses_none graph statuses said built is
+none_refused setting warnings graph statuses runs words (Some end) events said says built is = made_refuses_none statuses says.0
 
 -- ## After a fault
 
@@ -138,11 +138,11 @@ as_run scan answer asked run first last did = record {
   made = did.made;
 }
 
--- the marks that are said are those of what the compilers did
-marked : (answer : Request → Exit) (asked : Testing) (failed : Bool) (old new : Moments) (events : List Event) (tested : Tested) (over : TestsOver records_in_image answer asked.order asked.plan (Ok tested) failed old new events) →
-    tested.marks ≡ marks_of (work_over records_in_image asked.order old.now) over.compiled
-marked answer asked failed old new events tested over =
-    subst (λ (r : Result (List Mark) RunFault). IfOk r (λ marks. marks ≡ marks_of (work_over records_in_image asked.order old.now) over.compiled)) over.gives.0 over.builds.marks
+-- the statuses that are said are those of what the compilers did
+has_status : (answer : Request → Exit) (asked : Testing) (failed : Bool) (old new : Moments) (events : List Event) (tested : Tested) (over : TestsOver records_in_image answer asked.order asked.plan (Ok tested) failed old new events) →
+    tested.statuses ≡ statuses_of (work_over records_in_image asked.order old.now) over.compiled
+has_status answer asked failed old new events tested over =
+    subst (λ (r : Result (List FileStatus) RunFault). IfOk r (λ statuses. statuses ≡ statuses_of (work_over records_in_image asked.order old.now) over.compiled)) over.gives.0 over.builds.statuses
 
 module _ (scan : List ℕ → Finding) (answer : Request → Exit) (asked : Testing) (failed : Bool) (old new : Moments) (sound : AreSound old) (events : List Event) where
   abbrev work : Work
@@ -155,8 +155,8 @@ module _ (scan : List ℕ → Finding) (answer : Request → Exit) (asked : Test
   abbrev Quiet : Result Tested RunFault → Type 0
   Quiet result = RestsOver records_in_image (λ image. IsResting image) asked.order result old new (compile_part events)
 
-  ran_over : (result : Result Tested RunFault) (over : Over result) (words : List (List ℕ)) (said : Outcome) → (over.build ≡ Err fault.NoMemory → said ≡ outcome.NoMemory) → (HasEnded said → (marks : List Mark) × (over.build ≡ Ok marks)) →
-      (HasBuilt said → list_any is_refused (marks_of work over.compiled) ≡ false) → Quiet result → (HasEnded said → (tested : Tested) × (result ≡ Ok tested)) → RunsAs scan answer (Runs asked) (run_of words said failed events (added_since old new)) old.now new.now
+  ran_over : (result : Result Tested RunFault) (over : Over result) (words : List (List ℕ)) (said : Outcome) → (over.build ≡ Err fault.NoMemory → said ≡ outcome.NoMemory) → (HasEnded said → (statuses : List FileStatus) × (over.build ≡ Ok statuses)) →
+      (HasBuilt said → list_any is_refused (statuses_of work over.compiled) ≡ false) → Quiet result → (HasEnded said → (tested : Tested) × (result ≡ Ok tested)) → RunsAs scan answer (Runs asked) (run_of words said failed events (added_since old new)) old.now new.now
   ran_over result over words said memory ends none rests answers =
       as_run scan answer asked (run_of words said failed events (added_since old new)) old.now new.now
       (subst (λ (l : List Event). RunsAs scan answer (Builds asked.order asked.warnings) (record { words = words; outcome = said; disk_failed = failed; events = l; later = added_since old new }) old.now new.now)
@@ -164,12 +164,12 @@ module _ (scan : List ℕ → Finding) (answer : Request → Exit) (asked : Test
       (runs_over scan answer asked.order asked.warnings over.build failed old new sound over.compiled over.builds words said memory ends none
       (λ clean resting nothing. writes_nothing result old new (HasEnded said) answers (rests clean resting (ap (commits work) over.compilers ∙ nothing)))))
 
-  pub ran_ended : (tested : Tested) → Over (Ok tested) → (words : List (List ℕ)) (said : Outcome) → (IsSaid said → said ≡ (run_said asked.warnings asked.order.graph tested.marks asked.plan.runs asked.words tested.tests).outcome) → Quiet (Ok tested) →
+  pub ran_ended : (tested : Tested) → Over (Ok tested) → (words : List (List ℕ)) (said : Outcome) → (IsSaid said → said ≡ (run_said asked.warnings asked.order.graph tested.statuses asked.plan.runs asked.words tested.tests).outcome) → Quiet (Ok tested) →
       RunsAs scan answer (Runs asked) (run_of words said failed events (added_since old new)) old.now new.now
   ran_ended tested over words said answered rests =
-      ran_over (Ok tested) over words said (λ is. let nothing : Ok tested.marks ≡ Err fault.NoMemory = sym over.gives.0 ∙ is in absurd cc) (λ is. (tested.marks, over.gives.0))
-      (λ is. subst (λ (m : List Mark). list_any is_refused m ≡ false) (marked answer asked failed old new events tested over)
-      (none_refused (setting_after asked.order asked.plan work over.compiled) asked.warnings asked.order.graph tested.marks asked.plan.runs asked.words tested.tests over.tests said over.gives.1 is (answered (built_said said is)))) rests (λ is. (tested, refl))
+      ran_over (Ok tested) over words said (λ is. let nothing : Ok tested.statuses ≡ Err fault.NoMemory = sym over.gives.0 ∙ is in absurd cc) (λ is. (tested.statuses, over.gives.0))
+      (λ is. subst (λ (m : List FileStatus). list_any is_refused m ≡ false) (has_status answer asked failed old new events tested over)
+      (none_refused (setting_after asked.order asked.plan work over.compiled) asked.warnings asked.order.graph tested.statuses asked.plan.runs asked.words tested.tests over.tests said over.gives.1 is (answered (built_said said is)))) rests (λ is. (tested, refl))
 
   pub ran_faulted : (why : RunFault) → Over (Err why) → (words : List (List ℕ)) → Quiet (Err why) → RunsAs scan answer (Runs asked) (run_of words (fault_outcome why) failed events (added_since old new)) old.now new.now
   ran_faulted why over words rests =
@@ -208,29 +208,29 @@ module _ (tells : Object → Type 0) (answer : Request → Exit) (asked : Testin
         (tests_right answer records_in_image asked.order asked.plan before.moments.now over.compiled over.tests (readable_now before.moments sound) faithful over.builds.graph_form over.builds.lawful over.builds.answered here)
 
   module _ (tested : Tested) (over : Tests (Ok tested)) where
-    same_marks : tested.marks ≡ marks_between asked.order before after
-    same_marks = moved (Ok tested) over (λ c t. tested.marks ≡ marks_of built c) (marked answer asked failed before.moments after.moments events tested over)
+    same_statuses : tested.statuses ≡ statuses_between asked.order before after
+    same_statuses = moved (Ok tested) over (λ c t. tested.statuses ≡ statuses_of built c) (has_status answer asked failed before.moments after.moments events tested over)
 
-    same_tests : tested.tests ≡ (if list_all is_made tested.marks then Some (record { runs = test_ends (setting_between asked before after) (tests_since before after) }) else None)
+    same_tests : tested.tests ≡ (if list_all is_made tested.statuses then Some (record { runs = test_ends (setting_between asked before after) (tests_since before after) }) else None)
     same_tests =
-        moved (Ok tested) over (λ c t. tested.tests ≡ (if list_all is_made tested.marks then Some (record { runs = test_ends (setting_after asked.order asked.plan built c) t }) else None))
-        (ends_said (setting_after asked.order asked.plan built over.compiled) (list_all is_made tested.marks) tested.tests over.tests over.gives.1)
+        moved (Ok tested) over (λ c t. tested.tests ≡ (if list_all is_made tested.statuses then Some (record { runs = test_ends (setting_after asked.order asked.plan built c) t }) else None))
+        (ends_said (setting_after asked.order asked.plan built over.compiled) (list_all is_made tested.statuses) tested.tests over.tests over.gives.1)
 
-    same_said : run_said asked.warnings asked.order.graph tested.marks asked.plan.runs asked.words tested.tests ≡ said_between asked before after
+    same_said : run_said asked.warnings asked.order.graph tested.statuses asked.plan.runs asked.words tested.tests ≡ said_between asked before after
     same_said =
-        ap (λ (m : List Mark). run_said asked.warnings asked.order.graph m asked.plan.runs asked.words tested.tests) same_marks
-        ∙ ap (run_said asked.warnings asked.order.graph (marks_between asked.order before after) asked.plan.runs asked.words)
-        (same_tests ∙ ap (λ (m : List Mark). if list_all is_made m then Some (record { runs = test_ends (setting_between asked before after) (tests_since before after) }) else None) same_marks)
+        ap (λ (m : List FileStatus). run_said asked.warnings asked.order.graph m asked.plan.runs asked.words tested.tests) same_statuses
+        ∙ ap (run_said asked.warnings asked.order.graph (statuses_between asked.order before after) asked.plan.runs asked.words)
+        (same_tests ∙ ap (λ (m : List FileStatus). if list_all is_made m then Some (record { runs = test_ends (setting_between asked before after) (tests_since before after) }) else None) same_statuses)
 
-    are_whole : list_all is_made (marks_between asked.order before after) ≡ true → IsWholeTests (setting_between asked before after) (tests_since before after)
+    are_whole : list_all is_made (statuses_between asked.order before after) ≡ true → IsWholeTests (setting_between asked before after) (tests_since before after)
     are_whole made =
         moved (Ok tested) over (λ c t. IsWholeTests (setting_after asked.order asked.plan built c) t)
-        (whole_if (setting_after asked.order asked.plan built over.compiled) (list_all is_made tested.marks) tested.tests over.tests over.gives.1 (ap (list_all is_made) same_marks ∙ made))
+        (whole_if (setting_after asked.order asked.plan built over.compiled) (list_all is_made tested.statuses) tested.tests over.tests over.gives.1 (ap (list_all is_made) same_statuses ∙ made))
 
   pub tests_ended : (tested : Tested) → (tells Disk → tells Children → Tests (Ok tested)) → (result : Outcome) →
-      (tells Out → SaysRun result (plain_run (run_said asked.warnings asked.order.graph tested.marks asked.plan.runs asked.words tested.tests)) before.put after.put) →
-      (IsSaid result → result ≡ (run_said asked.warnings asked.order.graph tested.marks asked.plan.runs asked.words tested.tests).outcome) →
-      (tells Reports → WritesReport asked.report (run_said asked.warnings asked.order.graph tested.marks asked.plan.runs asked.words tested.tests).report result before.report after.report) →
+      (tells Out → SaysRun result (plain_run (run_said asked.warnings asked.order.graph tested.statuses asked.plan.runs asked.words tested.tests)) before.put after.put) →
+      (IsSaid result → result ≡ (run_said asked.warnings asked.order.graph tested.statuses asked.plan.runs asked.words tested.tests).outcome) →
+      (tells Reports → WritesReport asked.report (run_said asked.warnings asked.order.graph tested.statuses asked.plan.runs asked.words tested.tests).report result before.report after.report) →
       RunsTests tells answer asked result before after
   tests_ended tested over result says answers writes = record {
     parted = λ d c. parts (Ok tested) (over d c);

@@ -7,21 +7,21 @@ use Rattle.base_outcomes.specs.declared.outcome.Outcome.TheVariants as outcome
 use Rattle.base_outcomes.specs.declared.outcome.Limit.TheVariants as limits
 use Rattle.base.specs.declared.limits.TheConstants.{FILE_LIMIT, SLOT_LIMIT}
 use Rattle.base.specs.declared.child.Exit.{Exit}
-use Rattle.child_bench_codec.specs.Reading.{bench_at}
-use Rattle.child_benches.specs.Benches.{simulation}
+use Rattle.child_test_request.specs.Reading.{bench_at}
+use Rattle.child_tools.specs.Benches.{simulation}
 use Rattle.outside.specs.declared.streams.TakeEnd.TheVariants.{Got, TooLong}
 use Rattle.outside.specs.Streams.{take_end}
-use Rattle.report_run.specs.Texts.{bad_request}
+use Rattle.report.specs.Texts.{bad_request}
 use Rattle.project_reading.specs.Reading.{SourceReading}
-use Rattle.run_command_line.specs.declared.setting.Setting.{Setting}
-use Rattle.run_command_line.specs.declared.setting.WordsFault.TheVariants as words
-use Rattle.run_command_line.specs.Words.{setting_of, ReadsWords}
-use Rattle.vunit_top.specs.declared.words.Job.{Job}
+use Rattle.vunit_arguments.specs.declared.setting.Setting.{Setting}
+use Rattle.vunit_arguments.specs.declared.setting.ArgumentsFault.TheVariants as words
+use Rattle.vunit_arguments.specs.Arguments.{setting_of, ReadsArguments}
+use Rattle.vunit_top.specs.declared.words.Task.{Task}
 use Rattle.generated_runs.specs.declared.options.GenerateOptions.{GenerateOptions}
-use Rattle.run_histories.specs.Histories.{Order}
+use Rattle.run_spec.specs.Histories.{Order}
 use Rattle.std.proofs.lemmas.Option.{none-some}
-use Rattle.project_reading.specs.declared.wish.Wish.{Wish}
-use Rattle.vunit_top.specs.Reading.{Reading, Testing, Bad, Child, Compiler, Simulator, Over, Builds, Runs, Exports, Generates, begins_as_compiler, begins_as_simulator, job_of, generate_job, generate_options_of, generates, may_test, setting_job, maybe_job, words_job, full_reading}
+use Rattle.project_reading.specs.declared.query.Query.{Query}
+use Rattle.vunit_top.specs.Reading.{Reading, Testing, Bad, Child, Compiler, Simulator, Over, Builds, Runs, Exports, Generates, begins_as_compiler, begins_as_simulator, task_of, generate_task, generate_options_of, generates, may_test, setting_task, maybe_task, words_task, full_reading}
 use Rattle.vunit_top.specs.Said.{Said, order_of, plain_said, child_said, child_results, exit_said, left_results, input_bytes}
 
 got_is_short : (input : List ℕ) → TooLong ≡ Got input → ⊥
@@ -79,37 +79,37 @@ pub some_said : (x y : Said) → ◌≡◌ {A = Option Said} (Some x) (Some y) �
 some_said x y e = cc
 
 -- words that alone say what is done give nothing to build
-pub nothing_by : (j : Result Job Reading) (r : Reading) (s : Wish → SourceReading) → j ≡ Err r → order_of r ≡ None → order_of (full_reading j s) ≡ None
-nothing_by j r s is none = ap (λ (i : Result Job Reading). order_of (full_reading i s)) is ∙ none
+pub nothing_by : (j : Result Task Reading) (r : Reading) (s : Query → SourceReading) → j ≡ Err r → order_of r ≡ None → order_of (full_reading j s) ≡ None
+nothing_by j r s is none = ap (λ (i : Result Task Reading). order_of (full_reading i s)) is ∙ none
 
 module _ (setting : Setting) where
-  pub over_slots : SLOT_LIMIT < setting.num_threads → setting_job setting ≡ Err (Over limits.Slots SLOT_LIMIT)
+  pub over_slots : SLOT_LIMIT < setting.num_threads → setting_task setting ≡ Err (Over limits.Slots SLOT_LIMIT)
   over_slots over = rw (lt-ltb SLOT_LIMIT setting.num_threads over) refl
 
   module _ (few : setting.num_threads ≤ SLOT_LIMIT) where
-    abbrev settled : Job → Result Job Reading
+    abbrev settled : Task → Result Task Reading
     settled j = Ok j
 
-    abbrev by_mode : Result Job Reading
-    by_mode = if ltb 0 setting.generate then generate_job setting else Ok (job_of setting)
+    abbrev by_mode : Result Task Reading
+    by_mode = if ltb 0 setting.generate then generate_task setting else Ok (task_of setting)
 
-    within : setting_job setting ≡ by_mode
+    within : setting_task setting ≡ by_mode
     within = cond-false (ltb SLOT_LIMIT setting.num_threads) (Err (Over limits.Slots SLOT_LIMIT)) by_mode (le-ltb SLOT_LIMIT setting.num_threads few)
 
-    pub known_job : (j : Job) → setting.generate ≤ 0 → j ≡ job_of setting → setting_job setting ≡ Ok j
-    known_job j none is = within ∙ cond-false (ltb 0 setting.generate) (generate_job setting) (Ok (job_of setting)) (le-ltb 0 setting.generate none) ∙ ap settled (sym is)
+    pub known_task : (j : Task) → setting.generate ≤ 0 → j ≡ task_of setting → setting_task setting ≡ Ok j
+    known_task j none is = within ∙ cond-false (ltb 0 setting.generate) (generate_task setting) (Ok (task_of setting)) (le-ltb 0 setting.generate none) ∙ ap settled (sym is)
 
-    named : 0 < setting.generate → setting_job setting ≡ generate_job setting
-    named some = within ∙ cond-true (ltb 0 setting.generate) (generate_job setting) (Ok (job_of setting)) (lt-ltb 0 setting.generate some)
+    named : 0 < setting.generate → setting_task setting ≡ generate_task setting
+    named some = within ∙ cond-true (ltb 0 setting.generate) (generate_task setting) (Ok (task_of setting)) (lt-ltb 0 setting.generate some)
 
-    pub to_generate : 0 < setting.generate → setting.generate < FILE_LIMIT → setting_job setting ≡ Err (Generates (generate_options_of setting))
+    pub to_generate : 0 < setting.generate → setting.generate < FILE_LIMIT → setting_task setting ≡ Err (Generates (generate_options_of setting))
     to_generate some fits = named some ∙ cond-true (ltb setting.generate FILE_LIMIT) (Err (Generates (generate_options_of setting))) (Err (Over limits.Files FILE_LIMIT)) (lt-ltb setting.generate FILE_LIMIT fits)
 
-    pub over_files : 0 < setting.generate → FILE_LIMIT ≤ setting.generate → setting_job setting ≡ Err (Over limits.Files FILE_LIMIT)
+    pub over_files : 0 < setting.generate → FILE_LIMIT ≤ setting.generate → setting_task setting ≡ Err (Over limits.Files FILE_LIMIT)
     over_files some over = named some ∙ cond-false (ltb setting.generate FILE_LIMIT) (Err (Generates (generate_options_of setting))) (Err (Over limits.Files FILE_LIMIT)) (le-ltb setting.generate FILE_LIMIT over)
 
     -- what names the mode and generates nothing passes the limit
-    pub over_if_plain : 0 < setting.generate → generates (setting_job setting) ≡ false → setting_job setting ≡ Err (Over limits.Files FILE_LIMIT)
+    pub over_if_plain : 0 < setting.generate → generates (setting_task setting) ≡ false → setting_task setting ≡ Err (Over limits.Files FILE_LIMIT)
     over_if_plain some plain =
         elim (cases_Bool (ltb setting.generate FILE_LIMIT)) [
           | inl fits ↦ absurd (false≢true (sym plain ∙ ap generates (named some ∙ cond-true (ltb setting.generate FILE_LIMIT) (Err (Generates (generate_options_of setting))) (Err (Over limits.Files FILE_LIMIT)) fits)))
@@ -118,60 +118,60 @@ module _ (setting : Setting) where
 
 -- ## Words that generate a project
 
-module _ (j : Result Job Reading) (options : GenerateOptions) (is : j ≡ Err (Generates options)) where
+module _ (j : Result Task Reading) (options : GenerateOptions) (is : j ≡ Err (Generates options)) where
   pub not_plain : generates j ≡ false → ⊥
   not_plain plain = false≢true (sym plain ∙ ap generates is)
 
   pub not_untested : may_test j ≡ false → ⊥
   not_untested none = false≢true (sym none ∙ ap may_test is)
 
-  pub reads_generated : (s : Wish → SourceReading) → full_reading j s ≡ Generates options
-  reads_generated s = ap (λ (i : Result Job Reading). full_reading i s) is
+  pub reads_generated : (s : Query → SourceReading) → full_reading j s ≡ Generates options
+  reads_generated s = ap (λ (i : Result Task Reading). full_reading i s) is
 
   pub no_text : (r : Reading) → j ≡ Err r → (what : Said) → plain_said r ≡ Some what → ⊥
   no_text r other what said = none-some what (sym (ap plain_said (same_reading (sym is ∙ other))) ∙ said) where
-    same_reading : {a b : Reading} → ◌≡◌ {A = Result Job Reading} (Err a) (Err b) → b ≡ a
+    same_reading : {a b : Reading} → ◌≡◌ {A = Result Task Reading} (Err a) (Err b) → b ≡ a
     same_reading e = cc
 
-  pub no_plain_text : (s : Wish → SourceReading) (what : Said) → plain_said (full_reading j s) ≡ Some what → ⊥
+  pub no_plain_text : (s : Query → SourceReading) (what : Said) → plain_said (full_reading j s) ≡ Some what → ⊥
   no_plain_text s what said = none-some what (sym (ap plain_said (reads_generated s)) ∙ said)
 
-  pub no_job : (k : Job) → j ≡ Ok k → ⊥
-  no_job k other = let both : Err (Generates options) ≡ Ok k = sym is ∙ other in let nothing : ⊥ = cc in nothing
+  pub no_task : (k : Task) → j ≡ Ok k → ⊥
+  no_task k other = let both : Err (Generates options) ≡ Ok k = sym is ∙ other in let nothing : ⊥ = cc in nothing
 
-  pub no_build : (s : Wish → SourceReading) (order : Order) (warnings : List ℕ) → full_reading j s ≡ Builds order warnings → ⊥
+  pub no_build : (s : Query → SourceReading) (order : Order) (warnings : List ℕ) → full_reading j s ≡ Builds order warnings → ⊥
   no_build s order warnings other = let both : Generates options ≡ Builds order warnings = sym (reads_generated s) ∙ other in let nothing : ⊥ = cc in nothing
 
-  pub no_run : (s : Wish → SourceReading) (asked : Testing) → full_reading j s ≡ Runs asked → ⊥
+  pub no_run : (s : Query → SourceReading) (asked : Testing) → full_reading j s ≡ Runs asked → ⊥
   no_run s asked other = let both : Generates options ≡ Runs asked = sym (reads_generated s) ∙ other in let nothing : ⊥ = cc in nothing
 
   pub same_options : (other : GenerateOptions) → j ≡ Err (Generates other) → options ≡ other
   same_options other asked = let both : Err (Generates options) ≡ Err (Generates other) = sym is ∙ asked in cc
 
-  pub no_export : (s : Wish → SourceReading) (path text : List ℕ) → full_reading j s ≡ Exports path text → ⊥
+  pub no_export : (s : Query → SourceReading) (path text : List ℕ) → full_reading j s ≡ Exports path text → ⊥
   no_export s path text other = let both : Generates options ≡ Exports path text = sym (reads_generated s) ∙ other in let nothing : ⊥ = cc in nothing
 
 -- words that don't say so
-pub no_generated : (j : Result Job Reading) (options : GenerateOptions) → generates j ≡ false → j ≡ Err (Generates options) → ⊥
+pub no_generated : (j : Result Task Reading) (options : GenerateOptions) → generates j ≡ false → j ≡ Err (Generates options) → ⊥
 no_generated j options plain is = not_plain j options is plain
 
 module _ (all : List (List ℕ)) where
-  pub child_job : begins_as_compiler all ≡ true → words_job all ≡ Err (Child Compiler)
-  child_job child = cond-true (begins_as_compiler all) (Err (Child Compiler)) (if begins_as_simulator all then Err (Child Simulator) else maybe_job (setting_of all)) child
+  pub child_task : begins_as_compiler all ≡ true → words_task all ≡ Err (Child Compiler)
+  child_task child = cond-true (begins_as_compiler all) (Err (Child Compiler)) (if begins_as_simulator all then Err (Child Simulator) else maybe_task (setting_of all)) child
 
   module _ (no_child : begins_as_compiler all ≡ false) where
-    no_child_job : words_job all ≡ (if begins_as_simulator all then Err (Child Simulator) else maybe_job (setting_of all))
-    no_child_job = cond-false (begins_as_compiler all) (Err (Child Compiler)) (if begins_as_simulator all then Err (Child Simulator) else maybe_job (setting_of all)) no_child
+    no_child_task : words_task all ≡ (if begins_as_simulator all then Err (Child Simulator) else maybe_task (setting_of all))
+    no_child_task = cond-false (begins_as_compiler all) (Err (Child Compiler)) (if begins_as_simulator all then Err (Child Simulator) else maybe_task (setting_of all)) no_child
 
-    pub bench_job : begins_as_simulator all ≡ true → words_job all ≡ Err (Child Simulator)
-    bench_job bench = no_child_job ∙ cond-true (begins_as_simulator all) (Err (Child Simulator)) (maybe_job (setting_of all)) bench
+    pub bench_job : begins_as_simulator all ≡ true → words_task all ≡ Err (Child Simulator)
+    bench_job bench = no_child_task ∙ cond-true (begins_as_simulator all) (Err (Child Simulator)) (maybe_task (setting_of all)) bench
 
     module _ (no_bench : begins_as_simulator all ≡ false) where
-      read_job : (s : Option Setting) → setting_of all ≡ s → words_job all ≡ maybe_job s
-      read_job s is = no_child_job ∙ cond-false (begins_as_simulator all) (Err (Child Simulator)) (maybe_job (setting_of all)) no_bench ∙ ap maybe_job is
+      read_task : (s : Option Setting) → setting_of all ≡ s → words_task all ≡ maybe_task s
+      read_task s is = no_child_task ∙ cond-false (begins_as_simulator all) (Err (Child Simulator)) (maybe_task (setting_of all)) no_bench ∙ ap maybe_task is
 
-      pub setting_read : (setting : Setting) → ReadsWords (setting_of all) (Ok setting) → words_job all ≡ setting_job setting
-      setting_read setting read = read_job (Some setting) read
+      pub setting_read : (setting : Setting) → ReadsArguments (setting_of all) (Ok setting) → words_task all ≡ setting_task setting
+      setting_read setting read = read_task (Some setting) read
 
-      pub bad_read : ReadsWords (setting_of all) (Err words.Bad) → words_job all ≡ Err Bad
-      bad_read read = read_job None read
+      pub bad_read : ReadsArguments (setting_of all) (Err words.Bad) → words_task all ≡ Err Bad
+      bad_read read = read_task None read

@@ -5,24 +5,24 @@ use Rattle.base.specs.declared.child.Request.{Request}
 use Rattle.base.specs.declared.child.Exit.{Exit}
 use Rattle.base.specs.declared.child.Event.{Event}
 use Rattle.base.specs.declared.child.MaybeText.TheVariants.{Nothing}
-use Rattle.run_spec.specs.declared.marks.Mark.{Mark}
+use Rattle.run_spec.specs.declared.statuses.FileStatus.{FileStatus}
 use Rattle.base_outcomes.specs.declared.outcome.Outcome.{Outcome}
 use Rattle.outside.specs.Disks.{Moments, added_since}
 use Rattle.run_spec.specs.ChildJournal.{since}
-use Rattle.run_histories.specs.Histories.{Order, ProgramRun, work_over}
+use Rattle.run_spec.specs.Histories.{Order, ProgramRun, work_over}
 use Rattle.run_spec.specs.JournalParts.{compile_part, test_part}
 use Rattle.run_spec.specs.Faithful.{IsFaithfulDisk}
-use Rattle.run_spec.specs.Marks.{marks_of}
-use Rattle.report_run.specs.Outcomes.{build_outcome}
-use Rattle.build_loop.specs.Ran.{is_made}
-use Rattle.test_spec.specs.declared.ends.TestEnd.{TestEnd}
-use Rattle.test_journal.specs.TestJournal.{TestSetting, IsWholeTests}
-use Rattle.test_loop.specs.Results.{test_ends}
-use Rattle.run_tested.specs.Tested.{setting_after}
-use Rattle.run_tested_laws.specs.Histories.{HasTested}
-use Rattle.run_tested_laws.specs.Rights.{AreRightTests}
-use Rattle.report_tested.specs.declared.said.RunSaid.{RunSaid}
-use Rattle.report_tested.specs.Said.{run_said}
+use Rattle.run_spec.specs.Statuses.{statuses_of}
+use Rattle.report.specs.Outcomes.{build_outcome}
+use Rattle.run_build.specs.Ran.{is_made}
+use Rattle.testbench_runs.specs.declared.ends.TestEnd.{TestEnd}
+use Rattle.run_spec.specs.TestJournal.{TestSetting, IsWholeTests}
+use Rattle.run_tests.specs.Results.{test_ends}
+use Rattle.run_tests.specs.Tested.{setting_after}
+use Rattle.run_tests.specs.Histories.{HasTested}
+use Rattle.run_tests.specs.Rights.{AreRightTests}
+use Rattle.report.specs.declared.said.RunSaid.{RunSaid}
+use Rattle.report.specs.Said.{run_said}
 use Rattle.vhdl_spec.specs.Scans.{Finding}
 use Rattle.vunit_top.specs.Store.{records_in_image}
 use Rattle.vunit_top.specs.Ends.{Writes, WritesReport}
@@ -63,9 +63,9 @@ abbrev pub run_between : List (List ℕ) → Outcome → Seen → Seen → Progr
 run_between words result before after =
     run_of words result (has_risen before.disk_failures after.disk_failures) (since before.journal after.journal) (added_since before.moments after.moments)
 
--- the marks of a build of an order between two moments
-abbrev pub marks_between : Order → Seen → Seen → List Mark
-marks_between order before after = marks_of (work_over records_in_image order before.moments.now) (compile_part (since before.journal after.journal))
+-- the statuses of a build of an order between two moments
+abbrev pub statuses_between : Order → Seen → Seen → List FileStatus
+statuses_between order before after = statuses_of (work_over records_in_image order before.moments.now) (compile_part (since before.journal after.journal))
 
 -- the events of tests between two moments
 abbrev pub tests_since : Seen → Seen → List Event
@@ -78,22 +78,22 @@ setting_between asked before after = setting_after asked.order asked.plan (work_
 -- what became of the tests of a run between two moments: nothing, where a file isn't made
 abbrev pub tests_between : Testing → Seen → Seen → Option TestEnd
 tests_between asked before after =
-    if list_all is_made (marks_between asked.order before after) then Some (record { runs = test_ends (setting_between asked before after) (tests_since before after) }) else None
+    if list_all is_made (statuses_between asked.order before after) then Some (record { runs = test_ends (setting_between asked before after) (tests_since before after) }) else None
 
 -- what is said of a build and of its tests between two moments
 abbrev pub said_between : Testing → Seen → Seen → RunSaid
-said_between asked before after = run_said asked.warnings asked.order.graph (marks_between asked.order before after) asked.plan.runs asked.words (tests_between asked before after)
+said_between asked before after = run_said asked.warnings asked.order.graph (statuses_between asked.order before after) asked.plan.runs asked.words (tests_between asked before after)
 
 -- What a run with tests did and said between two moments, besides its build. All events of compilers come before those of
 -- tests. These are lawful runs of the plan over exactly what was built, none where a file isn't made, each end the answer to
 -- its start; and they are whole where the run has ended and all files are made. From a disk of true records each start of a
--- test is over the libraries of a clean build. The text is that of marks, verdicts and outputs, and so are the answer and the
+-- test is over the libraries of a clean build. The text is that of statuses, verdicts and outputs, and so are the answer and the
 -- report, which is written last.
 pub record RunsTests (tells : Object → Type 0) (answer : Request → Exit) (asked : Testing) (result : Outcome) (before after : Seen) : Type 0 where
   pub parted : tells Disk → tells Children → since before.journal after.journal ≡ compile_part (since before.journal after.journal) ++ tests_since before after
   pub tested : tells Disk → tells Children → HasTested answer asked.order asked.plan (work_over records_in_image asked.order before.moments.now) (compile_part (since before.journal after.journal)) (tests_since before after)
   pub right : tells Disk → tells Children → IsFaithfulDisk answer records_in_image before.moments.now → AreRightTests answer asked.order asked.plan (tests_since before after)
-  pub whole : tells Disk → tells Children → HasEnded result → list_all is_made (marks_between asked.order before after) ≡ true → IsWholeTests (setting_between asked before after) (tests_since before after)
+  pub whole : tells Disk → tells Children → HasEnded result → list_all is_made (statuses_between asked.order before after) ≡ true → IsWholeTests (setting_between asked before after) (tests_since before after)
   pub says : tells Disk → tells Children → tells Out → SaysRun result (plain_run (said_between asked before after)) before.put after.put
   pub answers : tells Disk → tells Children → IsSaid result → result ≡ (said_between asked before after).outcome
   pub writes : tells Disk → tells Children → tells Reports → WritesReport asked.report (said_between asked before after).report result before.report after.report
@@ -108,12 +108,12 @@ pub record Acts (tells same : Object → Type 0) (scan : List ℕ → Finding) (
   pub untouched : order_of r ≡ None → same Disk × same Children
   pub unreported : report_path_of r ≡ Nothing → same Reports
   pub silent : (path text : List ℕ) → r ≡ Exports path text → same Out
-  -- the answer and the text that is put: of what isn't a build; and of a build, by its marks
+  -- the answer and the text that is put: of what isn't a build; and of a build, by its statuses
   pub says_plain : tells Out → (what : Said) → plain_said r ≡ Some what → Says result what before.put after.put
   pub says_build : tells Disk → tells Children → tells Out → (order : Order) (warnings : List ℕ) → r ≡ Builds order warnings →
-      Says result (build_said warnings order.graph (marks_between order before after)) before.put after.put
+      Says result (build_said warnings order.graph (statuses_between order before after)) before.put after.put
   pub answers : tells Disk → tells Children → (order : Order) (warnings : List ℕ) → r ≡ Builds order warnings → IsSaid result →
-      result ≡ build_outcome order.graph (marks_between order before after)
+      result ≡ build_outcome order.graph (statuses_between order before after)
   -- of a run with tests: what they did, and what is said of them; and no test is started where there is no plan
   pub runs : (asked : Testing) → r ≡ Runs asked → RunsTests tells answer asked result before after
   pub untested : tells Children → plan_in r ≡ None → tests_since before after ≡ []

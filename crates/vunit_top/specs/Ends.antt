@@ -1,6 +1,6 @@
 -- What the parts of a run put and answer.
 use Rattle.std.specs.Prelude.{◌≡◌, ℕ, List, Option, Some, None, Err}
-use Rattle.base_outcomes.specs.declared.outcome.Which.TheVariants as which
+use Rattle.base_outcomes.specs.declared.outcome.OutsideObject.TheVariants as which
 use Rattle.base_outcomes.specs.declared.outcome.Outcome.{Outcome}
 use Rattle.base_outcomes.specs.declared.outcome.Outcome.TheVariants as outcome
 use Rattle.outside.specs.Counts.{Rose}

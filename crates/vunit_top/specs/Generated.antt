@@ -4,7 +4,7 @@ use Rattle.base.specs.declared.child.Request.{Request}
 use Rattle.base.specs.declared.child.Exit.{Exit}
 use Rattle.base.specs.declared.child.Event.{Event}
 use Rattle.base_outcomes.specs.declared.outcome.Outcome.{Outcome}
-use Rattle.run_steps.specs.declared.fault.RunFault.{RunFault}
+use Rattle.run_spec.specs.declared.fault.RunFault.{RunFault}
 use Rattle.vhdl_spec.specs.Scans.{Finding}
 use Rattle.generated_runs.specs.declared.options.GenerateOptions.{GenerateOptions}
 use Rattle.generated_runs.specs.declared.options.GeneratedSaid.{GeneratedSaid}

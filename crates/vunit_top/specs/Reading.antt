@@ -5,34 +5,34 @@ use Rattle.base.specs.declared.graph.Entry.{Entry}
 use Rattle.base_outcomes.specs.declared.outcome.Refusal.{Refusal}
 use Rattle.base_outcomes.specs.declared.outcome.Limit.{Limit}
 use Rattle.base_outcomes.specs.declared.outcome.Limit.TheVariants as limit
-use Rattle.vhdl_benches.specs.declared.bench.Bench.{Bench}
+use Rattle.base_outcomes.specs.declared.bench.Bench.{Bench}
 use Rattle.base.specs.declared.child.MaybeText.{MaybeText}
 use Rattle.base.specs.declared.child.MaybeText.TheVariants.{Given, Nothing}
 use Rattle.base.specs.declared.limits.TheConstants.{FILE_LIMIT, SLOT_LIMIT}
-use Rattle.run_histories.specs.Histories.{Sources, Order}
+use Rattle.run_spec.specs.Histories.{Sources, Order}
 use Rattle.run_spec.specs.JournalParts.{is_given}
-use Rattle.report_run.specs.Texts.{warning_text}
-use Rattle.report_lists.specs.Export.{export_text}
+use Rattle.report.specs.Texts.{warning_text}
+use Rattle.report.specs.Export.{export_text}
 use Rattle.vhdl_spec.specs.Scans.{Finding}
-use Rattle.run_command_line.specs.declared.setting.Setting.{Setting}
-use Rattle.run_command_line.specs.Words.{setting_of}
+use Rattle.vunit_arguments.specs.declared.setting.Setting.{Setting}
+use Rattle.vunit_arguments.specs.Arguments.{setting_of}
 use Rattle.project_reading.specs.Reading.{SourceReading, project_reading}
 use Rattle.project_reading.specs.Reading as sources
-pub use Rattle.project_reading.specs.Wishes.{chosen}
-use Rattle.project_reading.specs.declared.wish.Extent.{Extent}
-use Rattle.project_reading.specs.declared.wish.Extent.TheVariants.{Graph, Tests, Needed}
-use Rattle.project_reading.specs.declared.wish.Wish.{Wish}
+pub use Rattle.project_reading.specs.Queries.{chosen}
+use Rattle.project_reading.specs.declared.query.QueryKind.{QueryKind}
+use Rattle.project_reading.specs.declared.query.QueryKind.TheVariants.{Graph, Tests, Needed}
+use Rattle.project_reading.specs.declared.query.Query.{Query}
 use Rattle.run_build.specs.declared.building.BuildOptions.{BuildOptions}
 use Rattle.run_build.specs.Orders.{order_by}
 use Rattle.project_reading.specs.declared.linking.ReadProject.{ReadProject}
-use Rattle.test_spec.specs.declared.runs.TestRun.{TestRun}
-use Rattle.test_spec.specs.Runs.{test_runs}
-use Rattle.test_journal.specs.TestJournal.{TestPlan}
-use Rattle.report_tested.specs.declared.said.TestWords.{TestWords}
+use Rattle.testbench_runs.specs.declared.runs.TestRun.{TestRun}
+use Rattle.testbench_runs.specs.Runs.{test_runs}
+use Rattle.run_spec.specs.TestJournal.{TestPlan}
+use Rattle.report.specs.declared.said.TestWords.{TestWords}
 use Rattle.generated_runs.specs.declared.options.GenerateOptions.{GenerateOptions}
 use Rattle.vunit_top.specs.declared.words.RunOptions.{RunOptions}
-use Rattle.vunit_top.specs.declared.words.Job.{Job}
-use Rattle.vunit_top.specs.declared.words.Job.TheVariants as job
+use Rattle.vunit_top.specs.declared.words.Task.{Task}
+use Rattle.vunit_top.specs.declared.words.Task.TheVariants as task
 
 -- which child of the program it is: its own compiler, or its own simulator
 pub data Tool : Type 0 where
@@ -86,12 +86,12 @@ abbrev pub options_of : Setting → BuildOptions
 options_of setting = record { slots = setting.num_threads; keep_going = setting.keep_compiling; clean = setting.clean }
 
 -- how much is wanted: only what the tests need that are selected, or else this
-abbrev pub extent_of : Bool → Extent → Extent
-extent_of minimal other = if minimal then Needed else other
+abbrev pub query_kind_of : Bool → QueryKind → QueryKind
+query_kind_of minimal other = if minimal then Needed else other
 
 -- what a setting wants of the sources
-abbrev pub wish_by : Setting → Extent → Wish
-wish_by setting extent = record { extent = extent; patterns = setting.patterns }
+abbrev pub query_by : Setting → QueryKind → Query
+query_by setting query_kind = record { query_kind = query_kind; patterns = setting.patterns }
 
 -- how a setting says that files are built and tests are run
 abbrev pub run_options_of : Setting → RunOptions
@@ -100,87 +100,87 @@ run_options_of setting = record {
   fail_fast = setting.fail_fast;
   words = record { verbose = setting.verbose; quiet = setting.quiet; exit_0 = setting.exit_0; report = is_given setting.xunit_xml };
   report = setting.xunit_xml;
-  wish = wish_by setting (extent_of setting.minimal Tests);
+  query = query_by setting (query_kind_of setting.minimal Tests);
 }
 
 -- what is done by the first of the modes list, files and compile that is named, and else a run
-abbrev pub job_but_export : Setting → Job
-job_but_export setting =
-    if setting.list then job.ListTests (wish_by setting Tests) else if setting.files then job.ListFiles (wish_by setting (extent_of setting.minimal Graph))
-    else if setting.compile then job.Build (options_of setting) (wish_by setting (extent_of setting.minimal Graph)) else job.Run (run_options_of setting)
+abbrev pub task_but_export : Setting → Task
+task_but_export setting =
+    if setting.list then task.ListTests (query_by setting Tests) else if setting.files then task.ListFiles (query_by setting (query_kind_of setting.minimal Graph))
+    else if setting.compile then task.Build (options_of setting) (query_by setting (query_kind_of setting.minimal Graph)) else task.Run (run_options_of setting)
 
 -- the export of files and tests, where it has a path, and else what another mode asks for
-abbrev pub job_or_export : MaybeText → Setting → Job
-job_or_export (Given path) setting = job.Export path (wish_by setting Tests)
-job_or_export Nothing setting = job_but_export setting
+abbrev pub task_or_export : MaybeText → Setting → Task
+task_or_export (Given path) setting = task.Export path (query_by setting Tests)
+task_or_export Nothing setting = task_but_export setting
 
 -- what is done with the sources by the first of the modes export, list, files and compile that is named, and else a run
-abbrev pub job_of : Setting → Job
-job_of setting = job_or_export setting.export_json setting
+abbrev pub task_of : Setting → Task
+task_of setting = task_or_export setting.export_json setting
 
 -- how a setting says that a project is generated
 abbrev pub generate_options_of : Setting → GenerateOptions
 generate_options_of setting = record { packages = setting.generate; slots = setting.num_threads; exit_0 = setting.exit_0 }
 
 -- what a job wants of the sources
-abbrev pub wish_of : Job → Wish
-wish_of (job.ListFiles wish) = wish
-wish_of (job.ListTests wish) = wish
-wish_of (job.Export path wish) = wish
-wish_of (job.Build options wish) = wish
-wish_of (job.Run options) = options.wish
+abbrev pub query_of : Task → Query
+query_of (task.ListFiles query) = query
+query_of (task.ListTests query) = query
+query_of (task.Export path query) = query
+query_of (task.Build options query) = query
+query_of (task.Run options) = options.query
 
 -- whether a job may build, and so touch the disk and children
-abbrev pub is_build : Job → Bool
-is_build (job.Build options wish) = true
-is_build (job.Run options) = true
+abbrev pub is_build : Task → Bool
+is_build (task.Build options query) = true
+is_build (task.Run options) = true
 is_build _ = false
 
 -- whether a job may write a report
-abbrev pub may_write : Job → Bool
-may_write (job.Export path wish) = true
-may_write (job.Run options) = is_given options.report
+abbrev pub may_write : Task → Bool
+may_write (task.Export path query) = true
+may_write (task.Run options) = is_given options.report
 may_write _ = false
 
 -- whether a job may start tests
-abbrev pub is_run : Job → Bool
-is_run (job.Run options) = true
+abbrev pub is_run : Task → Bool
+is_run (task.Run options) = true
 is_run _ = false
 
 -- whether words may start a test
-abbrev pub may_test : Result Job Reading → Bool
-may_test (Ok job) = is_run job
+abbrev pub may_test : Result Task Reading → Bool
+may_test (Ok task) = is_run task
 may_test (Err (Generates options)) = true
 may_test (Err reading) = false
 
 -- whether words say that a project is to be generated
-abbrev pub generates : Result Job Reading → Bool
-generates (Ok job) = false
+abbrev pub generates : Result Task Reading → Bool
+generates (Ok task) = false
 generates (Err (Generates options)) = true
 generates (Err reading) = false
 
 -- a build has from 1 to 64 children at once
-abbrev pub HasSlots : Job → Type 0
-HasSlots (job.Build options wish) = (1 ≤ options.slots) × (options.slots ≤ SLOT_LIMIT)
-HasSlots (job.Run options) = (1 ≤ options.build.slots) × (options.build.slots ≤ SLOT_LIMIT)
+abbrev pub HasSlots : Task → Type 0
+HasSlots (task.Build options query) = (1 ≤ options.slots) × (options.slots ≤ SLOT_LIMIT)
+HasSlots (task.Run options) = (1 ≤ options.build.slots) × (options.build.slots ≤ SLOT_LIMIT)
 HasSlots _ = Unit {0}
 
 -- what a setting says that names the mode generate: the project has one file more than packages, and no more than may be
-abbrev pub generate_job : Setting → Result Job Reading
-generate_job setting = if nat_lt setting.generate FILE_LIMIT then Err (Generates (generate_options_of setting)) else Err (Over limit.Files FILE_LIMIT)
+abbrev pub generate_task : Setting → Result Task Reading
+generate_task setting = if nat_lt setting.generate FILE_LIMIT then Err (Generates (generate_options_of setting)) else Err (Over limit.Files FILE_LIMIT)
 
 -- What a setting says is done with the sources, or what it says alone. The mode generate comes before all others.
-abbrev pub setting_job : Setting → Result Job Reading
-setting_job setting = if nat_lt SLOT_LIMIT setting.num_threads then Err (Over limit.Slots SLOT_LIMIT) else if nat_lt 0 setting.generate then generate_job setting else Ok (job_of setting)
+abbrev pub setting_task : Setting → Result Task Reading
+setting_task setting = if nat_lt SLOT_LIMIT setting.num_threads then Err (Over limit.Slots SLOT_LIMIT) else if nat_lt 0 setting.generate then generate_task setting else Ok (task_of setting)
 
 -- what a setting asks for; words that give none are no command line
-abbrev pub maybe_job : Option Setting → Result Job Reading
-maybe_job None = Err Bad
-maybe_job (Some setting) = setting_job setting
+abbrev pub maybe_task : Option Setting → Result Task Reading
+maybe_task None = Err Bad
+maybe_task (Some setting) = setting_task setting
 
 -- what words say is done with the sources, or what they say alone
-abbrev pub words_job : List (List ℕ) → Result Job Reading
-words_job words = if begins_as_compiler words then Err (Child Compiler) else if begins_as_simulator words then Err (Child Simulator) else maybe_job (setting_of words)
+abbrev pub words_task : List (List ℕ) → Result Task Reading
+words_task words = if begins_as_compiler words then Err (Child Compiler) else if begins_as_simulator words then Err (Child Simulator) else maybe_task (setting_of words)
 
 -- what a run is to do with these runs of tests and this text of warnings
 abbrev pub testing_with : RunOptions → ReadProject → List TestRun → (warnings : List ℕ) → Testing
@@ -194,23 +194,23 @@ testing_with options read runs warnings = record {
 
 -- what a run is to do with the sources that were read
 abbrev pub testing_of : RunOptions → ReadProject → Testing
-testing_of options read = testing_with options read (test_runs read.project.files (chosen options.wish.patterns read.tests)) (warning_text read.project.files read.warnings)
+testing_of options read = testing_with options read (test_runs read.project.files (chosen options.query.patterns read.tests)) (warning_text read.project.files read.warnings)
 
 -- what is done with the sources that were read
-abbrev pub job_reading : Job → SourceReading → Reading
-job_reading job (sources.Stops reason) = Stops reason
-job_reading job (sources.Over limit number) = Over limit number
-job_reading (job.ListFiles wish) (sources.Found read) = Lists read.graph
-job_reading (job.ListTests wish) (sources.Found read) = ListsTests (chosen wish.patterns read.tests)
-job_reading (job.Export path wish) (sources.Found read) = Exports path (export_text read.graph read.project.files (chosen wish.patterns read.tests))
-job_reading (job.Build options wish) (sources.Found read) = Builds (order_by options read.graph) (warning_text read.project.files read.warnings)
-job_reading (job.Run options) (sources.Found read) = Runs (testing_of options read)
+abbrev pub task_reading : Task → SourceReading → Reading
+task_reading task (sources.Stops reason) = Stops reason
+task_reading task (sources.Over limit number) = Over limit number
+task_reading (task.ListFiles query) (sources.Found read) = Lists read.graph
+task_reading (task.ListTests query) (sources.Found read) = ListsTests (chosen query.patterns read.tests)
+task_reading (task.Export path query) (sources.Found read) = Exports path (export_text read.graph read.project.files (chosen query.patterns read.tests))
+task_reading (task.Build options query) (sources.Found read) = Builds (order_by options read.graph) (warning_text read.project.files read.warnings)
+task_reading (task.Run options) (sources.Found read) = Runs (testing_of options read)
 
 -- what is done with the sources, by what is wanted of them
-abbrev pub full_reading : Result Job Reading → (Wish → SourceReading) → Reading
-full_reading (Ok job) sources = job_reading job (sources (wish_of job))
+abbrev pub full_reading : Result Task Reading → (Query → SourceReading) → Reading
+full_reading (Ok task) sources = task_reading task (sources (query_of task))
 full_reading (Err reading) sources = reading
 
 -- the reading of words and sources, over a scanner
 abbrev pub reading : (List ℕ → Finding) → List (List ℕ) → Sources → Reading
-reading scan words sources = full_reading (words_job words) (project_reading scan sources.file sources.listed)
+reading scan words sources = full_reading (words_task words) (project_reading scan sources.file sources.listed)

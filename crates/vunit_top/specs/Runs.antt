@@ -6,16 +6,16 @@ use Rattle.base.specs.declared.child.Event.{Event}
 use Rattle.base_outcomes.specs.declared.outcome.Outcome.{Outcome}
 use Rattle.outside.specs.Disks.{DiskState, EachImage, Shrinks, reads_of, settled_disk}
 use Rattle.outside.specs.Commits.{last_state}
-use Rattle.run_spec.specs.ChildJournal.{Work, IsWhole, book_of, artefact_after}
+use Rattle.run_spec.specs.ChildJournal.{Work, IsWhole, progress_of, artefact_after}
 use Rattle.run_spec.specs.Settled.{request_unless}
 use Rattle.run_spec.specs.Commits.{commits}
 use Rattle.run_spec.specs.Faithful.{IsFaithfulDisk}
-use Rattle.run_histories.specs.Histories.{Order, World, ProgramRun, RunStep, work_over}
+use Rattle.run_spec.specs.Histories.{Order, World, ProgramRun, RunStep, work_over}
 use Rattle.run_spec.specs.JournalParts.{compile_part}
-use Rattle.run_spec.specs.Marks.{marks_of, steady_marks, NoRefusalHalts}
+use Rattle.run_spec.specs.Statuses.{statuses_of, steady_statuses, NoRefusalHalts}
 use Rattle.run_laws.specs.Rights.{IsRightStep}
 use Rattle.vhdl_spec.specs.Scans.{Finding}
-use Rattle.run_tested_laws.specs.Histories.{TestedWorld}
+use Rattle.run_tests.specs.Histories.{TestedWorld}
 use Rattle.vunit_top.specs.Store.{IsRestingDisk, records_in_image}
 use Rattle.run_build.specs.Orders.{IsDurablyRecorded}
 use Rattle.vunit_top.specs.Reading.{Reading, reading}
@@ -34,10 +34,10 @@ abbrev pub run_of : List (List ℕ) → Outcome → Bool → List Event → List
 run_of words result disk_failed events later = record { words = words; outcome = result; disk_failed = disk_failed; events = compile_part events; later = later }
 
 -- The started files are those that the settled build asks for: those that have no current record over what it makes of the
--- files that they depend on, and that it doesn't block. The marks are those that it says.
+-- files that they depend on, and that it doesn't block. The statuses are those that it says.
 pub record IsExact (answer : Request → Exit) (setting : Work) (events : List Event) : Type 0 where
-  pub started : (position : ℕ) → Contains (book_of setting events).taken position ↔ ((request : Request) × (request_unless answer setting.graph setting.current position ≡ Some request))
-  pub steady : marks_of setting events ≡ steady_marks answer setting.graph setting.current
+  pub started : (position : ℕ) → Contains (progress_of setting events).taken position ↔ ((request : Request) × (request_unless answer setting.graph setting.current position ≡ Some request))
+  pub steady : statuses_of setting events ≡ steady_statuses answer setting.graph setting.current
 
 -- Nothing was written to a disk from its first moment through later ones: no image was added at any moment; and a run that
 -- has ended left what reads gave before it, synced.

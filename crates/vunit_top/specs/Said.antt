@@ -1,27 +1,27 @@
 -- What a run answers and puts, and what each of its answers comes of.
 use Rattle.std.specs.Prelude.{◌≡◌, ℕ, ◌≤◌, nat_le, false, if◌then◌else◌, List, [], ◌++◌, length, Option, Some, None, unwrap_or}
 use Rattle.base.specs.declared.graph.Entry.{Entry}
-use Rattle.run_spec.specs.declared.marks.Mark.{Mark}
-use Rattle.base_outcomes.specs.declared.outcome.Which.TheVariants as which
+use Rattle.run_spec.specs.declared.statuses.FileStatus.{FileStatus}
+use Rattle.base_outcomes.specs.declared.outcome.OutsideObject.TheVariants as which
 use Rattle.base_outcomes.specs.declared.outcome.Outcome.{Outcome}
 use Rattle.base_outcomes.specs.declared.outcome.Outcome.TheVariants as outcome
 use Rattle.outside.specs.Counts.{Rose}
 use Rattle.outside.specs.FaultCounts.{RunFaultCounts, NoRunCountFell}
-use Rattle.run_steps.specs.declared.fault.RunFault.{RunFault}
-use Rattle.run_steps.specs.declared.fault.RunFault.TheVariants as fault
+use Rattle.run_spec.specs.declared.fault.RunFault.{RunFault}
+use Rattle.run_spec.specs.declared.fault.RunFault.TheVariants as fault
 use Rattle.outside.specs.Streams.{AddsPrefix}
-use Rattle.run_histories.specs.Histories.{Order}
-use Rattle.report_run.specs.Outcomes.{build_outcome}
-use Rattle.report_run.specs.Texts.{shown_bytes, build_text, refusal_text, limit_text, usage_text, bad_request, files_list}
-use Rattle.report_lists.specs.Listing.{tests_list}
+use Rattle.run_spec.specs.Histories.{Order}
+use Rattle.report.specs.Outcomes.{build_outcome}
+use Rattle.report.specs.Texts.{shown_bytes, build_text, refusal_text, limit_text, usage_text, bad_request, files_list}
+use Rattle.report.specs.Listing.{tests_list}
 use Rattle.base.specs.declared.child.MaybeText.{MaybeText}
 use Rattle.base.specs.declared.child.MaybeText.TheVariants.{Given, Nothing}
 use Rattle.base.specs.declared.child.Exit.{Exit}
-use Rattle.test_spec.specs.declared.jobs.BenchJob.{BenchJob}
-use Rattle.test_journal.specs.TestJournal.{TestPlan}
-use Rattle.child_bench_codec.specs.Reading.{bench_at}
-use Rattle.child_benches.specs.Benches.{simulation}
-use Rattle.report_tested.specs.declared.said.RunSaid.{RunSaid}
+use Rattle.testbench_runs.specs.declared.jobs.BenchJob.{BenchJob}
+use Rattle.run_spec.specs.TestJournal.{TestPlan}
+use Rattle.child_test_request.specs.Reading.{bench_at}
+use Rattle.child_tools.specs.Benches.{simulation}
+use Rattle.report.specs.declared.said.RunSaid.{RunSaid}
 use Rattle.vunit_top.specs.Reading.{Reading, Bad, Stops, Over, Lists, ListsTests, Exports, Builds, Runs}
 
 -- an answer, and the text that is put with it
@@ -59,9 +59,9 @@ plan_in _ = None
 abbrev pub order_in : Reading → Order
 order_in reading = unwrap_or (order_of reading) no_order
 
--- what a build of these marks answers, and its text after that of warnings
-abbrev pub build_said : List ℕ → List Entry → List Mark → Said
-build_said warnings graph marks = record { outcome = build_outcome graph marks; text = warnings ++ build_text shown_bytes graph marks }
+-- what a build of these statuses answers, and its text after that of warnings
+abbrev pub build_said : List ℕ → List Entry → List FileStatus → Said
+build_said warnings graph statuses = record { outcome = build_outcome graph statuses; text = warnings ++ build_text shown_bytes graph statuses }
 
 -- the most bytes that a child takes
 abbrev pub input_bytes : ℕ
@@ -78,8 +78,8 @@ child_said answer input = if nat_le (length input) input_bytes then exit_said (a
 -- the results that a simulator child leaves, if any: the path of its request, and its text
 abbrev pub left_results : Option BenchJob → MaybeText → Option Results
 left_results None results = None
-left_results (Some job) Nothing = None
-left_results (Some job) (Given text) = Some (record { path = job.results; text = text })
+left_results (Some task) Nothing = None
+left_results (Some task) (Given text) = Some (record { path = task.results; text = text })
 
 -- the results that the simulator child leaves for its input, if any
 abbrev pub child_results : List ℕ → Option Results

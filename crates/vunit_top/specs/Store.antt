@@ -2,7 +2,7 @@
 use Rattle.std.specs.Prelude.{List}
 use Rattle.outside.specs.Records.{Record}
 use Rattle.outside.specs.Disks.{DiskState, Image, reads_of}
-use Rattle.store_requests.specs.Stored.{IsResting, requests_in}
+use Rattle.store.specs.Stored.{IsResting, requests_in}
 
 -- the records that an image holds
 abbrev pub records_in_image : Image → List Record

@@ -1,8 +1,8 @@
 //! The program as a child of another run of it.
 
 ghost use Rattle.std.specs.Prelude.{◌≡◌, ◌≤◌, ◌⊎◌, ℕ, List, [], Option, None, Some};
-ghost use Rattle.child_bench_codec.specs.Reading.{bench_at};
-ghost use Rattle.child_benches.specs.Benches.{bench_answer, simulation};
+ghost use Rattle.child_test_request.specs.Reading.{bench_at};
+ghost use Rattle.child_tools.specs.Benches.{bench_answer, simulation};
 ghost use Rattle.child_lines.specs.Ends.{bad_request};
 ghost use Rattle.child_tools.specs.Answers.{analysis};
 ghost use Rattle.outside.specs.Reports.{HasWritten};
@@ -13,13 +13,12 @@ ghost use Rattle.vunit_top.specs.Said.{Results, Says, IsAccounted, child_results
 
 use crate::ends::say;
 use base::{Exit, MaybeText, Text};
-use base_outcomes::{Outcome, Which};
-use child_benches::{bench_job, run_job};
+use base_outcomes::{Outcome, OutsideObject};
 use child_lines::bad_request;
-use child_tools::analyse;
+use child_tools::{analyse, bench_job, run_job};
 use outside::{ReportFault, Reports, Sink, SinkFault, Source, SourceFault, TakeEnd};
 use std::alloc::Global;
-use test_spec::BenchJob;
+use testbench_runs::BenchJob;
 
 /// The most bytes that a child takes.
 const INPUT_BYTES: u64 = 2147483648;
@@ -40,7 +39,7 @@ fn say_exit<O: Sink>(exit: &Exit, out: &mut O) -> Outcome
     }
     match out.put(text) {
         Ok(()) => Outcome::Child(exit.code),
-        Err(SinkFault::Failed) => Outcome::OutsideFault(Which::Out),
+        Err(SinkFault::Failed) => Outcome::OutsideFault(OutsideObject::Out),
     }
 }
 
@@ -89,7 +88,7 @@ pub fn run_as_compiler<I: Source, O: Sink>(alloc: Global, input: &mut I, out: &m
         Ok(TakeEnd::Got(source)) => answer_source(alloc, source.bytes(), out),
         Ok(TakeEnd::TooLong) => say(b"bad request\n", Outcome::Child(2), out),
         Err(SourceFault::NoMemory) => Outcome::NoMemory,
-        Err(SourceFault::Failed) => Outcome::OutsideFault(Which::Input),
+        Err(SourceFault::Failed) => Outcome::OutsideFault(OutsideObject::Input),
     }
 }
 
@@ -113,14 +112,14 @@ fn leave_results<O: Sink, R: Reports>(
 {
     match reports.write(path, text.bytes()) {
         Ok(()) => say_exit(exit, out),
-        Err(ReportFault::Failed) => Outcome::OutsideFault(Which::Report),
+        Err(ReportFault::Failed) => Outcome::OutsideFault(OutsideObject::Report),
     }
 }
 
 /// Writes the results of a simulator child, if it has any, puts its output, and answers its code.
 fn leave_exit<O: Sink, R: Reports>(
     exit: &Exit,
-    job: &BenchJob,
+    task: &BenchJob,
     out: &mut O,
     reports: &mut R,
 ) -> Outcome
@@ -128,43 +127,43 @@ fn leave_exit<O: Sink, R: Reports>(
         Says result (exit_said exit.now) (O.contents out.old) (O.contents out.new) }
     ensures silent { exit.now.output ≡ [] → out.new ≡ out.old }
     ensures writes { R.tells →
-        WritesResults (left_results (Some job.now) exit.now.results) result
+        WritesResults (left_results (Some task.now) exit.now.results) result
         (R.report reports.old) (R.report reports.new) }
     ensures counted { (others : RunFaultCounts) → IsAccounted result
         (with_output O.Sink out.old (with_reports R.Reports reports.old others))
         (with_output O.Sink out.new (with_reports R.Reports reports.new others)) }
 {
     match &exit.results {
-        MaybeText::Given(text) => leave_results(exit, &job.results, text, out, reports),
+        MaybeText::Given(text) => leave_results(exit, &task.results, text, out, reports),
         MaybeText::Nothing => say_exit(exit, out),
     }
 }
 
 /// Answers a bench job.
-fn answer_job<O: Sink, R: Reports>(
+fn answer_task<O: Sink, R: Reports>(
     alloc: Global,
-    job: &BenchJob,
+    task: &BenchJob,
     out: &mut O,
     reports: &mut R,
 ) -> Outcome
     ensures said { O.tells →
-        Says result (exit_said (bench_answer job.now)) (O.contents out.old) (O.contents out.new) }
-    ensures silent { (bench_answer job.now).output ≡ [] → out.new ≡ out.old }
+        Says result (exit_said (bench_answer task.now)) (O.contents out.old) (O.contents out.new) }
+    ensures silent { (bench_answer task.now).output ≡ [] → out.new ≡ out.old }
     ensures writes { R.tells →
-        WritesResults (left_results (Some job.now) (bench_answer job.now).results) result
+        WritesResults (left_results (Some task.now) (bench_answer task.now).results) result
         (R.report reports.old) (R.report reports.new) }
     ensures counted { (others : RunFaultCounts) → IsAccounted result
         (with_output O.Sink out.old (with_reports R.Reports reports.old others))
         (with_output O.Sink out.new (with_reports R.Reports reports.new others)) }
 {
-    match run_job(alloc, job) {
-        Ok(exit) => leave_exit(&exit, job, out, reports),
+    match run_job(alloc, task) {
+        Ok(exit) => leave_exit(&exit, task, out, reports),
         Err(_) => Outcome::NoMemory,
     }
 }
 
 /// Answers the input of a simulator child.
-#[tactic(auto, unfolding(child_benches::specs::Benches::simulation))]
+#[tactic(auto, unfolding(child_tools::specs::Benches::simulation))]
 fn answer_bench<O: Sink, R: Reports>(
     alloc: Global,
     input: &[u8],
@@ -182,7 +181,7 @@ fn answer_bench<O: Sink, R: Reports>(
         (with_output O.Sink out.new (with_reports R.Reports reports.new others)) }
 {
     match bench_job(alloc, input) {
-        Ok(Some(job)) => answer_job(alloc, &job, out, reports),
+        Ok(Some(task)) => answer_task(alloc, &task, out, reports),
         Ok(None) => say_bad_request(alloc, out),
         Err(_) => Outcome::NoMemory,
     }
@@ -203,8 +202,8 @@ pub fn run_as_simulator<I: Source, O: Sink, R: Reports>(
     ensures writes { I.tells → R.tells →
         WritesResults (child_results (I.left input.old)) result
         (R.report reports.old) (R.report reports.new) }
-    ensures placed { (result ≡ Outcome.OutsideFault Which.Tree)
-        ⊎ (result ≡ Outcome.OutsideFault Which.Input) → reports.new ≡ reports.old }
+    ensures placed { (result ≡ Outcome.OutsideFault OutsideObject.Tree)
+        ⊎ (result ≡ Outcome.OutsideFault OutsideObject.Input) → reports.new ≡ reports.old }
     ensures counted { (others : RunFaultCounts) → IsAccounted result
         (with_output O.Sink out.old (with_reports R.Reports reports.old
         (with_input I.Source input.old others)))
@@ -215,6 +214,6 @@ pub fn run_as_simulator<I: Source, O: Sink, R: Reports>(
         Ok(TakeEnd::Got(request)) => answer_bench(alloc, request.bytes(), out, reports),
         Ok(TakeEnd::TooLong) => say(b"bad request\n", Outcome::Child(2), out),
         Err(SourceFault::NoMemory) => Outcome::NoMemory,
-        Err(SourceFault::Failed) => Outcome::OutsideFault(Which::Input),
+        Err(SourceFault::Failed) => Outcome::OutsideFault(OutsideObject::Input),
     }
 }

@@ -1,20 +1,18 @@
 //! What a run puts, and what it then answers.
 
 ghost use Rattle.std.specs.Prelude.{◌≡◌, ◌≤◌, ◌++◌, ℕ, List, [], length, IfOk};
-ghost use Rattle.report_run.specs.Outcomes.{build_outcome};
+ghost use Rattle.report.specs.Outcomes.{build_outcome};
 ghost use Rattle.vunit_top.specs.Said.{Says, IsSaid, build_said};
-ghost use Rattle.report_run.specs.Texts.{shown_bytes, build_text, refusal_text, limit_text, files_list, usage_text};
-ghost use Rattle.report_lists.specs.Listing.{tests_list};
+ghost use Rattle.report.specs.Texts.{shown_bytes, build_text, refusal_text, limit_text, files_list, usage_text};
+ghost use Rattle.report.specs.Listing.{tests_list};
 ghost use Rattle.vunit_top.specs.Ends.{OutCauses, ReportCauses, Writes};
 
 use base::{Graph, NoMemory, Text};
-use base_outcomes::{Limit, Outcome, Refusal, Which};
+use base_outcomes::{Limit, Outcome, OutsideObject, Refusal, Tests};
 use outside::{ReportFault, Reports, Sink, SinkFault};
-use report_lists::list_tests;
-use report_run::{build_outcome, build_text, limit_text, list_files, refusal_text};
-use run_spec::MarkList;
+use report::{build_outcome, build_text, limit_text, list_files, list_tests, refusal_text};
+use run_spec::FileStatusList;
 use std::alloc::Global;
-use vhdl_benches::Tests;
 
 /// What is put where the words aren't a command line of the program.
 static USAGE: [u8; 141] =
@@ -32,12 +30,12 @@ pub fn say<O: Sink>(text: &[u8], answer: Outcome, out: &mut O) -> Outcome
 {
     match out.put(text) {
         Ok(()) => answer,
-        Err(SinkFault::Failed) => Outcome::OutsideFault(Which::Out),
+        Err(SinkFault::Failed) => Outcome::OutsideFault(OutsideObject::Out),
     }
 }
 
 /// Puts the usage text.
-#[tactic(auto, unfolding(report_run::specs::Texts::usage_text))]
+#[tactic(auto, unfolding(report::specs::Texts::usage_text))]
 pub fn say_usage<O: Sink>(out: &mut O) -> Outcome
     ensures said { O.tells →
         Says result (record { outcome = Outcome.BadWords; text = usage_text })
@@ -116,45 +114,45 @@ pub fn write_report<R: Reports>(path: &Text, text: &[u8], reports: &mut R) -> Ou
 {
     match reports.write(path, text) {
         Ok(()) => Outcome::Done,
-        Err(ReportFault::Failed) => Outcome::OutsideFault(Which::Report),
+        Err(ReportFault::Failed) => Outcome::OutsideFault(OutsideObject::Report),
     }
 }
 
-/// The text of a build with these marks, after that of warnings.
+/// The text of a build with these statuses, after that of warnings.
 fn whole_text(
     alloc: Global,
     warnings: Text,
     graph: &Graph,
-    marks: &MarkList,
+    statuses: &FileStatusList,
 ) -> Result<Text, NoMemory>
-    requires { length marks.now ≡ length graph.now }
+    requires { length statuses.now ≡ length graph.now }
     ensures { IfOk result (λ text.
-        text ≡ warnings ++ build_text shown_bytes graph.now marks.now) }
+        text ≡ warnings ++ build_text shown_bytes graph.now statuses.now) }
 {
     let mut text = warnings.into_vec();
-    text.extend_from_slice(build_text(alloc, graph, marks)?.bytes())?;
+    text.extend_from_slice(build_text(alloc, graph, statuses)?.bytes())?;
     Ok(Text::from_vec(text))
 }
 
-/// Puts the text of warnings and of a build with these marks.
+/// Puts the text of warnings and of a build with these statuses.
 pub fn say_build<O: Sink>(
     alloc: Global,
     warnings: Text,
     graph: &Graph,
-    marks: &MarkList,
+    statuses: &FileStatusList,
     out: &mut O,
 ) -> Outcome
-    requires { length marks.now ≡ length graph.now }
-    ensures answer { IsSaid result → result ≡ build_outcome graph.now marks.now }
+    requires { length statuses.now ≡ length graph.now }
+    ensures answer { IsSaid result → result ≡ build_outcome graph.now statuses.now }
     ensures said { O.tells →
-        Says result (build_said warnings graph.now marks.now)
+        Says result (build_said warnings graph.now statuses.now)
         (O.contents out.old) (O.contents out.new) }
     ensures cause { OutCauses result (O.failed_puts out.old) (O.failed_puts out.new) }
     ensures stand { O.failed_puts out.old ≤ O.failed_puts out.new }
 {
     match (
-        whole_text(alloc, warnings, graph, marks),
-        build_outcome(alloc, graph, marks),
+        whole_text(alloc, warnings, graph, statuses),
+        build_outcome(alloc, graph, statuses),
     ) {
         (Ok(text), Ok(answer)) => say(text.bytes(), answer, out),
         _ => Outcome::NoMemory,

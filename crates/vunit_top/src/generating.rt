@@ -3,27 +3,27 @@
 ghost use Rattle.std.specs.Prelude.{◌≡◌, ◌≤◌, ◌<◌, ◌++◌, [], ℕ, List, Err, MatchOption, false};
 ghost use Rattle.outside.specs.FaultCounts.{RunFaultCounts, with_children, with_output};
 ghost use Rattle.run_spec.specs.ChildJournal.{since};
-ghost use Rattle.run_steps.specs.declared.fault.RunFault.TheVariants as fault;
+ghost use Rattle.run_spec.specs.declared.fault.RunFault.TheVariants as fault;
 ghost use Rattle.vhdl_spec.specs.Scans.{Finding, IsScanner};
 ghost use Rattle.vunit_top.specs.Generated.{GeneratesAs};
-ghost use Rattle.vunit_top.specs.Reading.{Generates, generates, setting_job};
+ghost use Rattle.vunit_top.specs.Reading.{Generates, generates, setting_task};
 ghost use Rattle.generated_runs.specs.Said.{IsAnswer};
 ghost use Rattle.vunit_top.specs.Said.{IsAccounted, IsSaid, Says, fault_outcome};
 
 use crate::ends::say;
-use crate::tests::fault_outcome;
+use crate::testing_run::fault_outcome;
 use base::{FILE_LIMIT, SLOT_LIMIT};
-use base_outcomes::{Outcome, Which};
+use base_outcomes::{Outcome, OutsideObject};
 use generated_runs::{GenerateOptions, GeneratedSaid, run_generated};
 use outside::{Procs, Sink};
-use run_command_line::Setting;
 use std::alloc::Global;
+use vunit_arguments::Setting;
 
 /// How a setting says that a project is to be generated, if it does and no limit is passed.
 pub fn generated_by(setting: &Setting) -> Option<GenerateOptions>
     requires { 1 ≤ setting.now.num_threads }
-    ensures { MatchOption result (generates (setting_job setting.now) ≡ false)
-        (λ options. (setting_job setting.now ≡ Err (Generates options))
+    ensures { MatchOption result (generates (setting_task setting.now) ≡ false)
+        (λ options. (setting_task setting.now ≡ Err (Generates options))
         × (1 ≤ options.slots) × (options.slots ≤ SLOT_LIMIT)) }
 {
     let packages = setting.generate;

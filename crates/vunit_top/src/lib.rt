@@ -4,9 +4,9 @@
 mod children;
 mod ends;
 mod generating;
-mod tests;
+mod testing_run;
 mod top;
 mod words;
 
 pub use top::run_vunit;
-pub use words::{Job, RunOptions};
+pub use words::{RunOptions, Task};

@@ -1,14 +1,22 @@
 //! The top call: reads words and sources, does what they say, and puts what became of it.
+//!
+//! Each step calls the next:
+//!
+//! 1. `run_vunit` reads the command line; it may be a compiler or a simulator instead, or generate a project.
+//! 2. `run_setting` settles the task.
+//! 3. `run_sources` reads the project.
+//! 4. `run_task` lists, exports, builds or tests.
+//! 5. `build_project` and `build_graph` build and say what became of it.
 
 ghost use Rattle.std.specs.Prelude.{◌≡◌, ◌≤◌, ◌⊎◌, ◌++◌, [], ℕ, List, codes, Option, Some, None, Ok, Err, true, false, IfOk};
 ghost use Rattle.outside.specs.Disks.{added_since};
 ghost use Rattle.outside.specs.FaultCounts.{RunFaultCounts, run_counts, with_build, with_output, with_reports, with_tree};
 ghost use Rattle.run_spec.specs.ChildJournal.{since};
-ghost use Rattle.run_histories.specs.Histories.{Order, work_over};
+ghost use Rattle.run_spec.specs.Histories.{Order, work_over};
 ghost use Rattle.run_spec.specs.JournalParts.{compile_part, test_part};
-ghost use Rattle.run_spec.specs.Marks.{marks_of};
-ghost use Rattle.report_run.specs.Outcomes.{build_outcome};
-ghost use Rattle.report_run.specs.Texts.{warning_text};
+ghost use Rattle.run_spec.specs.Statuses.{statuses_of};
+ghost use Rattle.report.specs.Outcomes.{build_outcome};
+ghost use Rattle.report.specs.Texts.{warning_text};
 ghost use Rattle.vhdl_spec.specs.Scans.{Finding, IsScanner};
 ghost use Rattle.project_reading.specs.Asked.{AsksFirst, project_paths};
 ghost use Rattle.project_reading.specs.Reading.{SourceReading, Found, project_reading};
@@ -16,16 +24,16 @@ ghost use Rattle.project_reading.specs.Sources.{IsReadProject, LeadsTo};
 ghost use Rattle.base.specs.declared.child.MaybeText.{MaybeText};
 ghost use Rattle.base.specs.declared.child.MaybeText.TheVariants.{Nothing};
 ghost use Rattle.child_tools.specs.Answers.{analysis};
-ghost use Rattle.child_benches.specs.Benches.{simulation};
-ghost use Rattle.report_lists.specs.Listing.{tests_list};
-ghost use Rattle.report_lists.specs.Export.{export_text};
+ghost use Rattle.child_tools.specs.Benches.{simulation};
+ghost use Rattle.report.specs.Listing.{tests_list};
+ghost use Rattle.report.specs.Export.{export_text};
 ghost use Rattle.vunit_top.specs.Store.{records_in_image};
 ghost use Rattle.vunit_top.specs.Acts.{Acts, RunsTests, of_each, seen};
 ghost use Rattle.generated_runs.specs.declared.options.GenerateOptions.{GenerateOptions};
 ghost use Rattle.vunit_top.specs.Generated.{GeneratesAs};
 ghost use Rattle.vunit_top.specs.Ends.{StopCounts, OutCauses, ReportCauses, Writes, WritesReport, WritesResults};
 ghost use Rattle.run_build.specs.Orders.{order_by};
-ghost use Rattle.vunit_top.specs.Reading.{Reading, Testing, Builds, Exports, Runs, HasSlots, reading, full_reading, job_reading, setting_job, words_job, begins_as_child, begins_as_compiler, begins_as_simulator, chosen, is_build, is_run, may_test, may_write, generates, Generates, wish_of};
+ghost use Rattle.vunit_top.specs.Reading.{Reading, Testing, Builds, Exports, Runs, HasSlots, reading, full_reading, task_reading, setting_task, words_task, begins_as_child, begins_as_compiler, begins_as_simulator, chosen, is_build, is_run, may_test, may_write, generates, Generates, query_of};
 ghost use Rattle.run_build.specs.Building.{has_risen};
 ghost use Rattle.vunit_top.specs.Runs.{RunsAs, run_of};
 ghost use Rattle.vunit_top.specs.Said.{Said, Says, SaysRun, IsSaid, HasEnded, Causes, IsAccounted, report_path_of, order_of, plan_in, plain_said, build_said, child_said, child_results};
@@ -35,19 +43,18 @@ use crate::ends::{
     say, say_build, say_files, say_limit, say_refusal, say_tests, say_usage, write_report,
 };
 use crate::generating::{generated_by, say_generated};
-use crate::tests::test_project;
-use crate::words::{Job, begins_with, job_of, wish_of};
+use crate::testing_run::test_project;
+use crate::words::{Task, begins_with, query_of, task_of};
 use base::{FILE_LIMIT, Graph, NoMemory, SLOT_LIMIT, Text, TextList};
-use base_outcomes::{Limit, Outcome, Refusal, Which};
+use base_outcomes::{Limit, Outcome, OutsideObject, Refusal};
 use outside::{Disk, Procs, Reports, Sink, Source, Tree};
-use project_reading::{ReadProject, ReadStop, chosen, read_project};
-use report_lists::export_json;
-use report_run::warning_text;
+use project_reading::{ReadProject, ReadStop, read_project, select_tests};
+use report::{export_json, warning_text};
 use run_build::{BuildOptions, build_over};
-use run_command_line::{Setting, WordsFault, read_words};
-use run_steps::RunFault;
+use run_spec::RunFault;
 use std::alloc::Global;
-use store_requests::RequestStore;
+use store::RequestStore;
+use vunit_arguments::{ArgumentsFault, Setting, read_arguments};
 
 /// Builds a graph over the records of a disk, and puts warnings and what became of its files.
 fn build_graph<D: Disk, P: Procs, O: Sink>(
@@ -78,24 +85,24 @@ fn build_graph<D: Disk, P: Procs, O: Sink>(
     ensures says { D.tells → P.tells → O.tells →
         let order = order_by options graph.now in
         let events = compile_part (since (P.journal procs.old) (P.journal procs.new)) in
-        let marks = marks_of (work_over records_in_image order (D.moments disk.old).now) events in
-        Says result (build_said warnings graph.now marks)
+        let statuses = statuses_of (work_over records_in_image order (D.moments disk.old).now) events in
+        Says result (build_said warnings graph.now statuses)
         (O.contents out.old) (O.contents out.new) }
     ensures answers { D.tells → P.tells →
         let order = order_by options graph.now in
         let events = compile_part (since (P.journal procs.old) (P.journal procs.new)) in
-        let marks = marks_of (work_over records_in_image order (D.moments disk.old).now) events in
-        IsSaid result → result ≡ build_outcome graph.now marks }
+        let statuses = statuses_of (work_over records_in_image order (D.moments disk.old).now) events in
+        IsSaid result → result ≡ build_outcome graph.now statuses }
     ensures counted { (others : RunFaultCounts) → IsAccounted result
         (with_build P.Procs D.Disk procs.old disk.old (with_output O.Sink out.old others))
         (with_build P.Procs D.Disk procs.new disk.new (with_output O.Sink out.new others)) }
 {
     match build_over::<RequestStore<'_>, D, P>(alloc, graph, options, disk, procs) {
-        Ok(marks) => say_build(alloc, warnings, graph, &marks, out),
+        Ok(statuses) => say_build(alloc, warnings, graph, &statuses, out),
         Err(RunFault::NoMemory) => Outcome::NoMemory,
-        Err(RunFault::StartFailed) => Outcome::OutsideFault(Which::Start),
-        Err(RunFault::ChildLost) => Outcome::OutsideFault(Which::Child),
-        Err(RunFault::DiskFailed) => Outcome::OutsideFault(Which::Disk),
+        Err(RunFault::StartFailed) => Outcome::OutsideFault(OutsideObject::Start),
+        Err(RunFault::ChildLost) => Outcome::OutsideFault(OutsideObject::Child),
+        Err(RunFault::DiskFailed) => Outcome::OutsideFault(OutsideObject::Disk),
     }
 }
 
@@ -129,14 +136,14 @@ fn build_project<D: Disk, P: Procs, O: Sink>(
         let order = order_by options read.now.graph in
         let warnings = warning_text read.now.project.files read.now.warnings in
         let events = compile_part (since (P.journal procs.old) (P.journal procs.new)) in
-        let marks = marks_of (work_over records_in_image order (D.moments disk.old).now) events in
-        Says result (build_said warnings read.now.graph marks)
+        let statuses = statuses_of (work_over records_in_image order (D.moments disk.old).now) events in
+        Says result (build_said warnings read.now.graph statuses)
         (O.contents out.old) (O.contents out.new) }
     ensures answers { D.tells → P.tells →
         let order = order_by options read.now.graph in
         let events = compile_part (since (P.journal procs.old) (P.journal procs.new)) in
-        let marks = marks_of (work_over records_in_image order (D.moments disk.old).now) events in
-        IsSaid result → result ≡ build_outcome read.now.graph marks }
+        let statuses = statuses_of (work_over records_in_image order (D.moments disk.old).now) events in
+        IsSaid result → result ≡ build_outcome read.now.graph statuses }
     ensures counted { (others : RunFaultCounts) → IsAccounted result
         (with_build P.Procs D.Disk procs.old disk.old (with_output O.Sink out.old others))
         (with_build P.Procs D.Disk procs.new disk.new (with_output O.Sink out.new others)) }
@@ -161,7 +168,7 @@ fn list_chosen<O: Sink>(
     ensures cause { OutCauses result (O.failed_puts out.old) (O.failed_puts out.new) }
     ensures stand { O.failed_puts out.old ≤ O.failed_puts out.new }
 {
-    match chosen(alloc, &read.tests, patterns) {
+    match select_tests(alloc, &read.tests, patterns) {
         Ok(tests) => say_tests(alloc, &tests, out),
         Err(_) => Outcome::NoMemory,
     }
@@ -172,7 +179,7 @@ fn export_of(alloc: Global, read: &ReadProject, patterns: &TextList) -> Result<T
     ensures { IfOk result (λ text. text ≡ export_text read.now.graph read.now.project.files
         (chosen patterns.now read.now.tests)) }
 {
-    let tests = chosen(alloc, &read.tests, patterns)?;
+    let tests = select_tests(alloc, &read.tests, patterns)?;
     export_json(alloc, &read.graph, &read.project, &tests)
 }
 
@@ -200,75 +207,75 @@ fn export_chosen<R: Reports>(
 }
 
 /// Does with the sources that were read what is to be done.
-fn run_job<D: Disk, P: Procs, O: Sink, R: Reports>(
+fn run_task<D: Disk, P: Procs, O: Sink, R: Reports>(
     alloc: Global,
-    job: Job,
+    task: Task,
     read: &ReadProject,
     disk: &mut D,
     procs: &mut P,
     out: &mut O,
     reports: &mut R,
 ) -> Outcome
-    requires slots { HasSlots job }
+    requires slots { HasSlots task }
     requires idle { P.running procs.old ≡ [] }
-    requires read { IsReadProject (wish_of job) read.now }
+    requires read { IsReadProject (query_of task) read.now }
     ensures running { P.running procs.new ≡ [] }
     ensures same { P.answer procs.new ≡ P.answer procs.old }
     ensures kept { P.tells →
         (P.journal procs.new
         ≡ P.journal procs.old ++ since (P.journal procs.old) (P.journal procs.new)) }
-    ensures no_tests { P.tells → is_run job ≡ false →
+    ensures no_tests { P.tells → is_run task ≡ false →
         test_part (since (P.journal procs.old) (P.journal procs.new)) ≡ [] }
     ensures acts { (scan : List ℕ → Finding) (words : List (List ℕ)) →
         Acts (of_each D.tells P.tells O.tells R.tells)
         (of_each (disk.new ≡ disk.old) (procs.new ≡ procs.old) (out.new ≡ out.old)
         (reports.new ≡ reports.old))
-        scan (P.answer procs.old) (job_reading job (Found read.now)) words result
+        scan (P.answer procs.old) (task_reading task (Found read.now)) words result
         (seen (P.journal procs.old) (D.moments disk.old) (D.failed_disk_calls disk.old)
         (O.contents out.old) (R.report reports.old))
         (seen (P.journal procs.new) (D.moments disk.new) (D.failed_disk_calls disk.new)
         (O.contents out.new) (R.report reports.new)) }
-    ensures unbuilt { is_build job ≡ false → (disk.new ≡ disk.old) × (procs.new ≡ procs.old) }
-    ensures unwritten { may_write job ≡ false → reports.new ≡ reports.old }
+    ensures unbuilt { is_build task ≡ false → (disk.new ≡ disk.old) × (procs.new ≡ procs.old) }
+    ensures unwritten { may_write task ≡ false → reports.new ≡ reports.old }
     ensures counted { (others : RunFaultCounts) → IsAccounted result
         (with_build P.Procs D.Disk procs.old disk.old
         (with_output O.Sink out.old (with_reports R.Reports reports.old others)))
         (with_build P.Procs D.Disk procs.new disk.new
         (with_output O.Sink out.new (with_reports R.Reports reports.new others))) }
 {
-    match job {
-        Job::ListFiles(_wish) => say_files(alloc, &read.graph, out),
-        Job::ListTests(wish) => list_chosen(alloc, read, &wish.patterns, out),
-        Job::Export(path, wish) => export_chosen(alloc, read, &path, &wish.patterns, reports),
-        Job::Build(options, _wish) => build_project(alloc, read, options, disk, procs, out),
-        Job::Run(options) => test_project(alloc, read, &options, disk, procs, out, reports),
+    match task {
+        Task::ListFiles(_query) => say_files(alloc, &read.graph, out),
+        Task::ListTests(query) => list_chosen(alloc, read, &query.patterns, out),
+        Task::Export(path, query) => export_chosen(alloc, read, &path, &query.patterns, reports),
+        Task::Build(options, _query) => build_project(alloc, read, options, disk, procs, out),
+        Task::Run(options) => test_project(alloc, read, &options, disk, procs, out, reports),
     }
 }
 
 /// Puts why nothing is done with the sources.
 fn say_stop<O: Sink>(alloc: Global, stop: ReadStop, out: &mut O) -> Outcome
-    ensures rests { (job : Job) (found : SourceReading) → LeadsTo found (Err stop) →
-        HasEnded result → order_of (job_reading job found) ≡ None }
-    ensures silent { (job : Job) (found : SourceReading) → LeadsTo found (Err stop) →
-        (path text : List ℕ) → job_reading job found ≡ Exports path text →
+    ensures rests { (task : Task) (found : SourceReading) → LeadsTo found (Err stop) →
+        HasEnded result → order_of (task_reading task found) ≡ None }
+    ensures silent { (task : Task) (found : SourceReading) → LeadsTo found (Err stop) →
+        (path text : List ℕ) → task_reading task found ≡ Exports path text →
         out.new ≡ out.old }
-    ensures says { O.tells → (job : Job) (found : SourceReading) → LeadsTo found (Err stop) →
-        (what : Said) → plain_said (job_reading job found) ≡ Some what →
+    ensures says { O.tells → (task : Task) (found : SourceReading) → LeadsTo found (Err stop) →
+        (what : Said) → plain_said (task_reading task found) ≡ Some what →
         Says result what (O.contents out.old) (O.contents out.new) }
-    ensures says_build { O.tells → (job : Job) (found : SourceReading) →
+    ensures says_build { O.tells → (task : Task) (found : SourceReading) →
         LeadsTo found (Err stop) → (order : Order) (warnings : List ℕ) →
-        job_reading job found ≡ Builds order warnings → (what : Said) →
+        task_reading task found ≡ Builds order warnings → (what : Said) →
         Says result what (O.contents out.old) (O.contents out.new) }
-    ensures says_run { O.tells → (job : Job) (found : SourceReading) →
+    ensures says_run { O.tells → (task : Task) (found : SourceReading) →
         LeadsTo found (Err stop) → (asked : Testing) →
-        job_reading job found ≡ Runs asked → (what : Said) →
+        task_reading task found ≡ Runs asked → (what : Said) →
         SaysRun result what (O.contents out.old) (O.contents out.new) }
-    ensures unwritten { (job : Job) (found : SourceReading) → LeadsTo found (Err stop) →
-        (asked : Testing) → job_reading job found ≡ Runs asked →
+    ensures unwritten { (task : Task) (found : SourceReading) → LeadsTo found (Err stop) →
+        (asked : Testing) → task_reading task found ≡ Runs asked →
         (path : MaybeText) (said : Option (List ℕ)) (reports : List ℕ → Option (List ℕ)) →
         WritesReport path said result reports reports }
-    ensures writes { (job : Job) (found : SourceReading) → LeadsTo found (Err stop) →
-        (path text : List ℕ) → job_reading job found ≡ Exports path text →
+    ensures writes { (task : Task) (found : SourceReading) → LeadsTo found (Err stop) →
+        (path text : List ℕ) → task_reading task found ≡ Exports path text →
         (reports : List ℕ → Option (List ℕ)) → Writes result path text reports reports }
     ensures cause { (others : RunFaultCounts) (before now : ℕ) →
         StopCounts stop before now →
@@ -280,7 +287,7 @@ fn say_stop<O: Sink>(alloc: Global, stop: ReadStop, out: &mut O) -> Outcome
     match stop {
         ReadStop::Refused(reason) => say_refusal(alloc, reason, out),
         ReadStop::Over(limit, number) => say_limit(alloc, limit, number, out),
-        ReadStop::Failed => Outcome::OutsideFault(Which::Tree),
+        ReadStop::Failed => Outcome::OutsideFault(OutsideObject::Tree),
         ReadStop::NoMemory => Outcome::NoMemory,
     }
 }
@@ -288,14 +295,14 @@ fn say_stop<O: Sink>(alloc: Global, stop: ReadStop, out: &mut O) -> Outcome
 /// Reads the project in a tree, and does with it what is to be done.
 fn run_sources<T: Tree, D: Disk, P: Procs, O: Sink, R: Reports>(
     alloc: Global,
-    job: Job,
+    task: Task,
     tree: &mut T,
     disk: &mut D,
     procs: &mut P,
     out: &mut O,
     reports: &mut R,
 ) -> Outcome
-    requires slots { HasSlots job }
+    requires slots { HasSlots task }
     requires idle { P.running procs.old ≡ [] }
     ensures running { P.running procs.new ≡ [] }
     ensures same { P.answer procs.new ≡ P.answer procs.old }
@@ -310,7 +317,7 @@ fn run_sources<T: Tree, D: Disk, P: Procs, O: Sink, R: Reports>(
     ensures kept { P.tells →
         (P.journal procs.new
         ≡ P.journal procs.old ++ since (P.journal procs.old) (P.journal procs.new)) }
-    ensures no_tests { P.tells → is_run job ≡ false →
+    ensures no_tests { P.tells → is_run task ≡ false →
         test_part (since (P.journal procs.old) (P.journal procs.new)) ≡ [] }
     ensures acts { (scan : List ℕ → Finding) → IsScanner scan → T.tells →
         (words : List (List ℕ)) →
@@ -318,15 +325,15 @@ fn run_sources<T: Tree, D: Disk, P: Procs, O: Sink, R: Reports>(
         Acts (of_each D.tells P.tells O.tells R.tells)
         (of_each (disk.new ≡ disk.old) (procs.new ≡ procs.old) (out.new ≡ out.old)
         (reports.new ≡ reports.old))
-        scan (P.answer procs.old) (job_reading job (sources (wish_of job))) words result
+        scan (P.answer procs.old) (task_reading task (sources (query_of task))) words result
         (seen (P.journal procs.old) (D.moments disk.old) (D.failed_disk_calls disk.old)
         (O.contents out.old) (R.report reports.old))
         (seen (P.journal procs.new) (D.moments disk.new) (D.failed_disk_calls disk.new)
         (O.contents out.new) (R.report reports.new)) }
-    ensures unbuilt { is_build job ≡ false → (disk.new ≡ disk.old) × (procs.new ≡ procs.old) }
-    ensures unwritten { may_write job ≡ false → reports.new ≡ reports.old }
-    ensures placed { (result ≡ Outcome.OutsideFault Which.Tree)
-        ⊎ (result ≡ Outcome.OutsideFault Which.Input) →
+    ensures unbuilt { is_build task ≡ false → (disk.new ≡ disk.old) × (procs.new ≡ procs.old) }
+    ensures unwritten { may_write task ≡ false → reports.new ≡ reports.old }
+    ensures placed { (result ≡ Outcome.OutsideFault OutsideObject.Tree)
+        ⊎ (result ≡ Outcome.OutsideFault OutsideObject.Input) →
         (disk.new ≡ disk.old) × (procs.new ≡ procs.old) × (reports.new ≡ reports.old) }
     ensures counted { (others : RunFaultCounts) → IsAccounted result
         (with_tree T.Tree tree.old (with_build P.Procs D.Disk procs.old disk.old
@@ -334,9 +341,9 @@ fn run_sources<T: Tree, D: Disk, P: Procs, O: Sink, R: Reports>(
         (with_tree T.Tree tree.new (with_build P.Procs D.Disk procs.new disk.new
         (with_output O.Sink out.new (with_reports R.Reports reports.new others)))) }
 {
-    let wish = wish_of(&job);
-    match read_project(alloc, tree, wish) {
-        Ok(read) => run_job(alloc, job, &read, disk, procs, out, reports),
+    let query = query_of(&task);
+    match read_project(alloc, tree, query) {
+        Ok(read) => run_task(alloc, task, &read, disk, procs, out, reports),
         Err(stop) => say_stop(alloc, stop, out),
     }
 }
@@ -352,7 +359,7 @@ fn run_setting<T: Tree, D: Disk, P: Procs, O: Sink, R: Reports>(
     reports: &mut R,
 ) -> Outcome
     requires some { 1 ≤ setting.num_threads }
-    requires plain { generates (setting_job setting) ≡ false }
+    requires plain { generates (setting_task setting) ≡ false }
     requires idle { P.running procs.old ≡ [] }
     ensures running { P.running procs.new ≡ [] }
     ensures same { P.answer procs.new ≡ P.answer procs.old }
@@ -367,7 +374,7 @@ fn run_setting<T: Tree, D: Disk, P: Procs, O: Sink, R: Reports>(
     ensures kept { P.tells →
         (P.journal procs.new
         ≡ P.journal procs.old ++ since (P.journal procs.old) (P.journal procs.new)) }
-    ensures no_tests { P.tells → may_test (setting_job setting) ≡ false →
+    ensures no_tests { P.tells → may_test (setting_task setting) ≡ false →
         test_part (since (P.journal procs.old) (P.journal procs.new)) ≡ [] }
     ensures acts { (scan : List ℕ → Finding) → IsScanner scan → T.tells →
         (words : List (List ℕ)) →
@@ -375,23 +382,23 @@ fn run_setting<T: Tree, D: Disk, P: Procs, O: Sink, R: Reports>(
         Acts (of_each D.tells P.tells O.tells R.tells)
         (of_each (disk.new ≡ disk.old) (procs.new ≡ procs.old) (out.new ≡ out.old)
         (reports.new ≡ reports.old))
-        scan (P.answer procs.old) (full_reading (setting_job setting) sources) words result
+        scan (P.answer procs.old) (full_reading (setting_task setting) sources) words result
         (seen (P.journal procs.old) (D.moments disk.old) (D.failed_disk_calls disk.old)
         (O.contents out.old) (R.report reports.old))
         (seen (P.journal procs.new) (D.moments disk.new) (D.failed_disk_calls disk.new)
         (O.contents out.new) (R.report reports.new)) }
-    ensures words_alone { (r : Reading) → setting_job setting ≡ Err r →
+    ensures words_alone { (r : Reading) → setting_task setting ≡ Err r →
         (tree.new ≡ tree.old) × (disk.new ≡ disk.old) × (procs.new ≡ procs.old)
         × (reports.new ≡ reports.old) }
-    ensures unbuilt { (job : Job) → setting_job setting ≡ Ok job → is_build job ≡ false →
+    ensures unbuilt { (task : Task) → setting_task setting ≡ Ok task → is_build task ≡ false →
         (disk.new ≡ disk.old) × (procs.new ≡ procs.old) }
-    ensures unwritten { (job : Job) → setting_job setting ≡ Ok job → may_write job ≡ false →
+    ensures unwritten { (task : Task) → setting_task setting ≡ Ok task → may_write task ≡ false →
         reports.new ≡ reports.old }
-    ensures says_words { O.tells → (r : Reading) → setting_job setting ≡ Err r →
+    ensures says_words { O.tells → (r : Reading) → setting_task setting ≡ Err r →
         (what : Said) → plain_said r ≡ Some what →
         Says result what (O.contents out.old) (O.contents out.new) }
-    ensures placed { (result ≡ Outcome.OutsideFault Which.Tree)
-        ⊎ (result ≡ Outcome.OutsideFault Which.Input) →
+    ensures placed { (result ≡ Outcome.OutsideFault OutsideObject.Tree)
+        ⊎ (result ≡ Outcome.OutsideFault OutsideObject.Input) →
         (disk.new ≡ disk.old) × (procs.new ≡ procs.old) × (reports.new ≡ reports.old) }
     ensures counted { (others : RunFaultCounts) → IsAccounted result
         (with_tree T.Tree tree.old (with_build P.Procs D.Disk procs.old disk.old
@@ -405,8 +412,8 @@ fn run_setting<T: Tree, D: Disk, P: Procs, O: Sink, R: Reports>(
     if setting.generate > 0 {
         return say_limit(alloc, Limit::Files, FILE_LIMIT as u64, out);
     }
-    let job = job_of(setting);
-    run_sources(alloc, job, tree, disk, procs, out, reports)
+    let task = task_of(setting);
+    run_sources(alloc, task, tree, disk, procs, out, reports)
 }
 
 /// Runs the program: reads the words, and does what they and the sources say.
@@ -451,12 +458,12 @@ pub fn run_vunit<I: Source, T: Tree, D: Disk, P: Procs, O: Sink, R: Reports>(
     ensures kept { P.tells →
         (P.journal procs.new
         ≡ P.journal procs.old ++ since (P.journal procs.old) (P.journal procs.new)) }
-    ensures no_tests { P.tells → may_test (words_job words.now) ≡ false →
+    ensures no_tests { P.tells → may_test (words_task words.now) ≡ false →
         test_part (since (P.journal procs.old) (P.journal procs.new)) ≡ [] }
 
     // What the run did is a step of a history, and right from a disk of true records; but for one that generates a project.
     ensures ran { (scan : List ℕ → Finding) → IsScanner scan → T.tells → D.tells → P.tells →
-        generates (words_job words.now) ≡ false →
+        generates (words_task words.now) ≡ false →
         RunsAs scan (P.answer procs.old)
         (reading scan words.now (record { file = T.file tree.old; listed = T.listed tree.old }))
         (run_of words.now result
@@ -467,15 +474,15 @@ pub fn run_vunit<I: Source, T: Tree, D: Disk, P: Procs, O: Sink, R: Reports>(
 
     // Each source is asked for once, in project order: all of them, or the first ones, and then neither the disk nor
     // children are touched.
-    ensures asked { T.tells → generates (words_job words.now) ≡ false →
+    ensures asked { T.tells → generates (words_task words.now) ≡ false →
         let paths = project_paths (T.file tree.old) (T.listed tree.old) in
         (T.asked tree.new ≡ T.asked tree.old ++ paths)
         ⊎ (AsksFirst paths (T.asked tree.old) (T.asked tree.new)
         × (disk.new ≡ disk.old) × (procs.new ≡ procs.old)) }
 
     // A fault of the tree or of the input is answered only before a report, the disk or children are touched.
-    ensures placed { (result ≡ Outcome.OutsideFault Which.Tree)
-        ⊎ (result ≡ Outcome.OutsideFault Which.Input) →
+    ensures placed { (result ≡ Outcome.OutsideFault OutsideObject.Tree)
+        ⊎ (result ≡ Outcome.OutsideFault OutsideObject.Input) →
         (disk.new ≡ disk.old) × (procs.new ≡ procs.old) × (reports.new ≡ reports.old) }
 
     // What isn't needed isn't touched: input but by a child of the program; tree, disk, children and reports where the words
@@ -483,15 +490,15 @@ pub fn run_vunit<I: Source, T: Tree, D: Disk, P: Procs, O: Sink, R: Reports>(
     // children where nothing is to be built, by the words, and where the sources give nothing to build; reports where none is
     // to be written, and where the sources give none; the output where nothing is said. All this on every answer.
     ensures no_input { begins_as_child words.now ≡ false → input.new ≡ input.old }
-    ensures words_alone { (r : Reading) → words_job words.now ≡ Err r →
+    ensures words_alone { (r : Reading) → words_task words.now ≡ Err r →
         (tree.new ≡ tree.old) × (disk.new ≡ disk.old) }
-    ensures words_idle { (r : Reading) → words_job words.now ≡ Err r →
-        generates (words_job words.now) ≡ false → procs.new ≡ procs.old }
-    ensures words_unwritten { (r : Reading) → words_job words.now ≡ Err r →
+    ensures words_idle { (r : Reading) → words_task words.now ≡ Err r →
+        generates (words_task words.now) ≡ false → procs.new ≡ procs.old }
+    ensures words_unwritten { (r : Reading) → words_task words.now ≡ Err r →
         begins_as_simulator words.now ≡ false → reports.new ≡ reports.old }
-    ensures unbuilt { (job : Job) → words_job words.now ≡ Ok job → is_build job ≡ false →
+    ensures unbuilt { (task : Task) → words_task words.now ≡ Ok task → is_build task ≡ false →
         (disk.new ≡ disk.old) × (procs.new ≡ procs.old) }
-    ensures unwritten { (job : Job) → words_job words.now ≡ Ok job → may_write job ≡ false →
+    ensures unwritten { (task : Task) → words_task words.now ≡ Ok task → may_write task ≡ false →
         reports.new ≡ reports.old }
     ensures unreported { (scan : List ℕ → Finding) → IsScanner scan → T.tells →
         begins_as_simulator words.now ≡ false →
@@ -499,7 +506,7 @@ pub fn run_vunit<I: Source, T: Tree, D: Disk, P: Procs, O: Sink, R: Reports>(
         (record { file = T.file tree.old; listed = T.listed tree.old })) ≡ Nothing →
         reports.new ≡ reports.old }
     ensures untouched { (scan : List ℕ → Finding) → IsScanner scan → T.tells →
-        generates (words_job words.now) ≡ false →
+        generates (words_task words.now) ≡ false →
         order_of (reading scan words.now
         (record { file = T.file tree.old; listed = T.listed tree.old })) ≡ None →
         (disk.new ≡ disk.old) × (procs.new ≡ procs.old) }
@@ -516,7 +523,7 @@ pub fn run_vunit<I: Source, T: Tree, D: Disk, P: Procs, O: Sink, R: Reports>(
         ≡ Exports path text → out.new ≡ out.old }
 
     // The answer and the text that is put: of a child of the program, which is that of its input; of words alone; of words and
-    // sources with which nothing is built; of a build, by its marks. The simulator leaves its results first.
+    // sources with which nothing is built; of a build, by its statuses. The simulator leaves its results first.
     ensures says_compiler { (scan : List ℕ → Finding) → IsScanner scan → I.tells → O.tells →
         begins_as_compiler words.now ≡ true →
         Says result (child_said (analysis scan) (I.left input.old))
@@ -529,7 +536,7 @@ pub fn run_vunit<I: Source, T: Tree, D: Disk, P: Procs, O: Sink, R: Reports>(
         begins_as_simulator words.now ≡ true →
         WritesResults (child_results (I.left input.old)) result
         (R.report reports.old) (R.report reports.new) }
-    ensures says_words { O.tells → (r : Reading) → words_job words.now ≡ Err r →
+    ensures says_words { O.tells → (r : Reading) → words_task words.now ≡ Err r →
         (what : Said) → plain_said r ≡ Some what →
         Says result what (O.contents out.old) (O.contents out.new) }
     ensures says_plain { (scan : List ℕ → Finding) → IsScanner scan → T.tells → O.tells →
@@ -543,17 +550,17 @@ pub fn run_vunit<I: Source, T: Tree, D: Disk, P: Procs, O: Sink, R: Reports>(
         reading scan words.now (record { file = T.file tree.old; listed = T.listed tree.old })
         ≡ Builds order warnings →
         let events = compile_part (since (P.journal procs.old) (P.journal procs.new)) in
-        let marks = marks_of (work_over records_in_image order (D.moments disk.old).now) events in
-        Says result (build_said warnings order.graph marks)
+        let statuses = statuses_of (work_over records_in_image order (D.moments disk.old).now) events in
+        Says result (build_said warnings order.graph statuses)
         (O.contents out.old) (O.contents out.new) }
-    // The answer of a build is that of its marks, whatever is told of the output.
+    // The answer of a build is that of its statuses, whatever is told of the output.
     ensures answers { (scan : List ℕ → Finding) → IsScanner scan → T.tells → D.tells → P.tells →
         (order : Order) (warnings : List ℕ) →
         reading scan words.now (record { file = T.file tree.old; listed = T.listed tree.old })
         ≡ Builds order warnings →
         let events = compile_part (since (P.journal procs.old) (P.journal procs.new)) in
-        let marks = marks_of (work_over records_in_image order (D.moments disk.old).now) events in
-        IsSaid result → result ≡ build_outcome order.graph marks }
+        let statuses = statuses_of (work_over records_in_image order (D.moments disk.old).now) events in
+        IsSaid result → result ≡ build_outcome order.graph statuses }
 
     // What a run with tests did and said besides its build: its tests come after it, over exactly what was built, which are the
     // libraries of a clean build from a disk of true records, whatever the answer is.
@@ -567,7 +574,7 @@ pub fn run_vunit<I: Source, T: Tree, D: Disk, P: Procs, O: Sink, R: Reports>(
         (O.contents out.new) (R.report reports.new)) }
     // No test is started where words and sources give no runs of tests.
     ensures untested { (scan : List ℕ → Finding) → IsScanner scan → T.tells → P.tells →
-        generates (words_job words.now) ≡ false →
+        generates (words_task words.now) ≡ false →
         plan_in (reading scan words.now
         (record { file = T.file tree.old; listed = T.listed tree.old })) ≡ None →
         test_part (since (P.journal procs.old) (P.journal procs.new)) ≡ [] }
@@ -575,7 +582,7 @@ pub fn run_vunit<I: Source, T: Tree, D: Disk, P: Procs, O: Sink, R: Reports>(
     // What a run did and said that generates a project: two builds with an edit between, over a tree and a disk of its own, and
     // the tests of the second.
     ensures generated { (scan : List ℕ → Finding) → IsScanner scan → P.tells →
-        (options : GenerateOptions) → words_job words.now ≡ Err (Generates options) →
+        (options : GenerateOptions) → words_task words.now ≡ Err (Generates options) →
         GeneratesAs scan (P.answer procs.old) options result O.tells
         (since (P.journal procs.old) (P.journal procs.new))
         (O.contents out.old) (O.contents out.new) }
@@ -602,12 +609,12 @@ pub fn run_vunit<I: Source, T: Tree, D: Disk, P: Procs, O: Sink, R: Reports>(
     if begins_with(b"child-bench", words) {
         return run_as_simulator(alloc, input, out, reports);
     }
-    match read_words(alloc, words) {
+    match read_arguments(alloc, words) {
         Ok(setting) => match generated_by(&setting) {
             Some(options) => say_generated(alloc, options, procs, out),
             None => run_setting(alloc, setting, tree, disk, procs, out, reports),
         },
-        Err(WordsFault::Bad) => say_usage(out),
-        Err(WordsFault::NoMemory) => Outcome::NoMemory,
+        Err(ArgumentsFault::Bad) => say_usage(out),
+        Err(ArgumentsFault::NoMemory) => Outcome::NoMemory,
     }
 }

@@ -3,13 +3,13 @@
 ghost use Rattle.std.specs.Prelude.{◌≡◌, ◌≤◌, ◌<◌, ◌^◌, IfSome};
 ghost use Rattle.std.specs.Str.{bytes_eq};
 ghost use Rattle.run_spec.specs.JournalParts.{is_given};
-ghost use Rattle.vunit_top.specs.Reading.{HasSlots, begins_with, extent_of, job_of, wish_of};
+ghost use Rattle.vunit_top.specs.Reading.{HasSlots, begins_with, query_kind_of, task_of, query_of};
 
 use base::{MaybeText, SLOT_LIMIT, Text, TextList};
-use project_reading::{Extent, Wish};
-use report_tested::TestWords;
+use project_reading::{Query, QueryKind};
+use report::TestWords;
 use run_build::BuildOptions;
-use run_command_line::Setting;
+use vunit_arguments::Setting;
 
 /// How files are built and their tests are run.
 #[derive(Drop)]
@@ -21,42 +21,42 @@ pub struct RunOptions {
     /// The file of the report of tests, where one is wanted.
     pub report: MaybeText,
     /// Which tests, and whether only the files that they need are built.
-    pub wish: Wish,
+    pub query: Query,
 }
 
 /// What is done with the sources.
 #[derive(Drop)]
-pub enum Job {
+pub enum Task {
     /// The files that are wanted are listed, in compile order.
-    ListFiles(Wish),
+    ListFiles(Query),
     /// The tests that one of the patterns matches are listed.
-    ListTests(Wish),
+    ListTests(Query),
     /// The files, and the tests that one of the patterns matches, are written to the file of this path.
-    Export(Text, Wish),
+    Export(Text, Query),
     /// The files that are wanted are built.
-    Build(BuildOptions, Wish),
+    Build(BuildOptions, Query),
     /// The files are built, and then the tests that one of the patterns matches are run.
     Run(RunOptions),
 }
 
 /// What is wanted of the sources.
-pub fn wish_of<'a>(job: &'a Job) -> &'a Wish
-    ensures { result.now ≡ wish_of job.entry.now }
+pub fn query_of<'a>(task: &'a Task) -> &'a Query
+    ensures { result.now ≡ query_of task.entry.now }
 {
-    match job {
-        Job::ListFiles(wish) => wish,
-        Job::ListTests(wish) => wish,
-        Job::Export(_path, wish) => wish,
-        Job::Build(_options, wish) => wish,
-        Job::Run(options) => &options.wish,
+    match task {
+        Task::ListFiles(query) => query,
+        Task::ListTests(query) => query,
+        Task::Export(_path, query) => query,
+        Task::Build(_options, query) => query,
+        Task::Run(options) => &options.query,
     }
 }
 
 /// How much is wanted: only what the tests need that are selected, or else this.
-fn extent_of(minimal: bool, other: Extent) -> Extent
-    ensures { result ≡ extent_of minimal other }
+fn query_kind_of(minimal: bool, other: QueryKind) -> QueryKind
+    ensures { result ≡ query_kind_of minimal other }
 {
-    if minimal { Extent::Needed } else { other }
+    if minimal { QueryKind::Needed } else { other }
 }
 
 fn is_same(a: &[u8], b: &[u8]) -> bool
@@ -85,10 +85,10 @@ fn is_given(path: &MaybeText) -> bool
 }
 
 /// What a setting says is done with the sources.
-pub fn job_of(setting: Setting) -> Job
+pub fn task_of(setting: Setting) -> Task
     requires some { 1 ≤ setting.num_threads }
     requires few { setting.num_threads ≤ SLOT_LIMIT }
-    ensures job { result ≡ job_of setting }
+    ensures task { result ≡ task_of setting }
     ensures slots { HasSlots result }
 {
     let Setting {
@@ -109,16 +109,28 @@ pub fn job_of(setting: Setting) -> Job
         patterns,
     } = setting;
     if let MaybeText::Given(path) = export_json {
-        let extent = Extent::Tests;
-        return Job::Export(path, Wish { extent, patterns });
+        let query_kind = QueryKind::Tests;
+        return Task::Export(
+            path,
+            Query {
+                query_kind,
+                patterns,
+            },
+        );
     }
     if list {
-        let extent = Extent::Tests;
-        return Job::ListTests(Wish { extent, patterns });
+        let query_kind = QueryKind::Tests;
+        return Task::ListTests(Query {
+            query_kind,
+            patterns,
+        });
     }
     if files {
-        let extent = extent_of(minimal, Extent::Graph);
-        return Job::ListFiles(Wish { extent, patterns });
+        let query_kind = query_kind_of(minimal, QueryKind::Graph);
+        return Task::ListFiles(Query {
+            query_kind,
+            patterns,
+        });
     }
     let build = BuildOptions {
         slots: num_threads as u32,
@@ -126,12 +138,18 @@ pub fn job_of(setting: Setting) -> Job
         clean,
     };
     if compile {
-        let extent = extent_of(minimal, Extent::Graph);
-        return Job::Build(build, Wish { extent, patterns });
+        let query_kind = query_kind_of(minimal, QueryKind::Graph);
+        return Task::Build(
+            build,
+            Query {
+                query_kind,
+                patterns,
+            },
+        );
     }
     let report = is_given(&xunit_xml);
-    let extent = extent_of(minimal, Extent::Tests);
-    Job::Run(RunOptions {
+    let query_kind = query_kind_of(minimal, QueryKind::Tests);
+    Task::Run(RunOptions {
         build,
         fail_fast,
         words: TestWords {
@@ -141,6 +159,9 @@ pub fn job_of(setting: Setting) -> Job
             report,
         },
         report: xunit_xml,
-        wish: Wish { extent, patterns },
+        query: Query {
+            query_kind,
+            patterns,
+        },
     })
 }

@@ -2,8 +2,8 @@
 use Rattle.std.proofs.Common.{◌≡◌, List, drop}
 use Rattle.base.specs.declared.graph.BuiltFile.{BuiltFile}
 use Rattle.child_tools.specs.Exports.{first_missing}
-use Rattle.child_tools.specs.Marks.{KnowsLibraries, KnowsUnits}
+use Rattle.child_tools.specs.Flags.{KnowsLibraries, KnowsUnits}
 use Rattle.child_tools.proofs.exports.first_of.Given as goal
 
 abbrev pub invariant-loop-unit : goal.invariant-loop-unit
-invariant-loop-unit l = (files : List BuiltFile) → KnowsLibraries files l.libraries → KnowsUnits files l.units l.marks → first_missing files (drop l.unit-index l.units) ≡ first_missing files l.units
+invariant-loop-unit l = (files : List BuiltFile) → KnowsLibraries files l.libraries → KnowsUnits files l.units l.flags → first_missing files (drop l.unit-index l.units) ≡ first_missing files l.units

@@ -1,8 +1,8 @@
 -- What is put is there.
 use Rattle.std.proofs.Common.{◌≡◌, true, cond, Some, subst}
-use Rattle.base_key_index.specs.Maps.{get}
-use Rattle.vhdl_keys.specs.UnitKeys.{is_same_unit}
-use Rattle.vhdl_keys.specs.declared.units.UnitKey.{UnitKey}
+use Rattle.base_collections.specs.Maps.{get}
+use Rattle.vhdl_units.specs.UnitKeys.{is_same_unit}
+use Rattle.vhdl_units.specs.declared.units.UnitKey.{UnitKey}
 use Rattle.child_tools.proofs.MissingLemmas.{has_put}
 use Rattle.child_tools.proofs.exports.put_new.Goals as goal
 

@@ -1,6 +1,6 @@
 -- The text is that of the package whose number the path has.
 use Rattle.std.proofs.Common.{ℕ, List, Some, refl, sym, ap, ◌∙◌, arith}
-use Rattle.generated_project.proofs.Places.{package_found}
+use Rattle.generated_project.proofs.Indices.{package_found}
 use Rattle.generated_project.proofs.tree.package_of.Goals as goal
 
 pub returns : goal.returns

@@ -10,7 +10,7 @@ use Rattle.generated_runs.proofs.building.build_first.Goals as goal
 pub returns-in-Ok-clause-ran : goal.returns-in-Ok-clause-ran
 returns-in-Ok-clause-ran g c = λ tells.
     first_ended (g.P.Procs.answer c.args.procs.now) c.args.options c.args.graph.now (has_risen c.args.disk.now.calls.failed c.build_over.new.disk.calls.failed) (moments_of c.args.disk.now.log) (moments_of c.build_over.new.disk.log) (since (g.P.Procs.journal c.args.procs.now) (g.P.Procs.journal c.build_over.new.procs))
-    (now_sound c.build_over.new.disk.log) c.in-Ok.marks (c.in-Ok.ensures.told tt tells)
+    (now_sound c.build_over.new.disk.log) c.in-Ok.statuses (c.in-Ok.ensures.told tt tells)
 
 pub returns-in-Err-clause-ran : goal.returns-in-Err-clause-ran
 returns-in-Err-clause-ran g c = λ tells.

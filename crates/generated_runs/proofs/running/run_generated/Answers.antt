@@ -1,7 +1,7 @@
 -- From the first sources on, where they give nothing to build.
 use Rattle.std.proofs.Common.{Err, []}
 use Rattle.project_reading.specs.Sources.{LeadsTo}
-use Rattle.run_steps.specs.declared.fault.RunFault.TheVariants as fault
+use Rattle.run_spec.specs.declared.fault.RunFault.TheVariants as fault
 use Rattle.run_spec.specs.ChildJournal.{since}
 use Rattle.run_build.proofs.OverStore.{since_itself}
 use Rattle.generated_runs.specs.Sources.{first_reading, second_reading}

@@ -1,6 +1,6 @@
 -- What is said of the second build and of its tests.
 use Rattle.std.proofs.Common.{Err}
-use Rattle.run_steps.specs.declared.fault.RunFault.TheVariants as fault
+use Rattle.run_spec.specs.declared.fault.RunFault.TheVariants as fault
 use Rattle.run_spec.specs.ChildJournal.{since}
 use Rattle.generated_runs.proofs.Parts.{edited_said, edited_faulted}
 use Rattle.generated_runs.proofs.running.test_planned.Goals as goal

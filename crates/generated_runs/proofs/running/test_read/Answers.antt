@@ -1,6 +1,6 @@
 -- Out of memory before anything was started.
 use Rattle.project_reading.specs.Reading.{Found}
-use Rattle.run_steps.specs.declared.fault.RunFault.TheVariants as fault
+use Rattle.run_spec.specs.declared.fault.RunFault.TheVariants as fault
 use Rattle.run_spec.specs.ChildJournal.{since}
 use Rattle.run_build.proofs.OverStore.{since_itself}
 use Rattle.generated_runs.proofs.Parts.{edited_fault}

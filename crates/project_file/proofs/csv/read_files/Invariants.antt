@@ -2,7 +2,7 @@
 use Rattle.std.proofs.Common.{◌≡◌, ◌+◌, ◌≤◌, length}
 use Rattle.std.specs.Str.Lines.{lines}
 use Rattle.project_file.specs.Csv.{files_after, csv_files}
-use Rattle.base_name_set.specs.Names.{Holds}
+use Rattle.base_collections.specs.Names.{Holds}
 use Rattle.project_file.proofs.csv.read_files.Given as goal
 
 abbrev pub invariant-lines : goal.invariant-lines

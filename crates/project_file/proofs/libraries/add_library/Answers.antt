@@ -2,7 +2,7 @@
 use Rattle.std.proofs.Common.{◌≡◌, sym, ap, subst, ◌∙◌, List, ℕ, false}
 use Rattle.std.specs.Prelude.{codes, Contains}
 use Rattle.std.specs.Str.{bytes_eq}
-use Rattle.base_numbering.specs.Numbers.{IsNumbered}
+use Rattle.base_collections.specs.Numbers.{IsNumbered}
 use Rattle.project_file.proofs.LibrarySteps.{new_is}
 use Rattle.project_file.proofs.libraries.add_library.Goals as goal
 

@@ -14,10 +14,10 @@ loop-i-preserved c =
     let wanted : c.in_ok-wanted.wanted ≡ matches_path c.args.pattern.now (get_or c.args.names.now c.loop-i.i []) =
     c.in_ok-wanted.ensures.pattern c.args.pattern.now (c.as_slice.ensures ∙ c.in_ok-parts.ensures) ∙ ap (matches_path c.args.pattern.now) name in
     let both = taken_more c.args.names.now c.requires.distinct (matches_path c.args.pattern.now) (texts_at c.args.names.now c.args.found.now.numbers) c.loop-i.i c.loop-i-test.true c.loop-i.found c.add_wanted.new.found c.in_ok-wanted.wanted
-    c.loop-i.invariant.places c.loop-i.invariant.found wanted c.in_ok-add_wanted.ensures in
+    c.loop-i.invariant.indices c.loop-i.invariant.found wanted c.in_ok-add_wanted.ensures in
     record {
       some = c.either-any.ensures ∙ ap (λ b. b || c.in_ok-wanted.wanted) c.loop-i.invariant.some ∙ ap (λ b. list_any (matches_path c.args.pattern.now) (take c.loop-i.i c.args.names.now) || b) wanted
           ∙ sym (list_any_more (matches_path c.args.pattern.now) c.args.names.now c.loop-i.i [] c.loop-i-test.true);
-      places = both.0;
+      indices = both.0;
       found = both.1;
     }

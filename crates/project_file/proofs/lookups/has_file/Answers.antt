@@ -13,8 +13,8 @@ use Rattle.project_file.proofs.lookups.has_file.Goals as goal
 
 pub returns-in-Some : goal.returns-in-Some
 returns-in-Some c = λ names compiler files gives.
-    found_is (λ (t : Bor (BTreeMap (String Global) Value)). table_view t.now) names compiler c.args.tables.now c.args.libraries.now.keys c.args.paths.now.keys files c.args.name.now c.in-Some.place c.index-tables-place.result c.has_path.result gives
-    (subst (λ (key : FileName). slice_get c.args.libraries.now.keys c.in-Some.place ≡ Some key) c.in_ok-library.ensures c.in-Some.ensures) (subst (λ (n : ℕ). c.in-Some.place < n) c.requires.as_many (slice_get_within c.args.libraries.now.keys c.in-Some.place c.in_ok-library.library c.in-Some.ensures)) c.index-tables-place.is (c.has_path.ensures names gives.index)
+    found_is (λ (t : Bor (BTreeMap (String Global) Value)). table_view t.now) names compiler c.args.tables.now c.args.libraries.now.keys c.args.paths.now.keys files c.args.name.now c.in-Some.file_index c.index-tables-file_index.result c.has_path.result gives
+    (subst (λ (key : FileName). slice_get c.args.libraries.now.keys c.in-Some.file_index ≡ Some key) c.in_ok-library.ensures c.in-Some.ensures) (subst (λ (n : ℕ). c.in-Some.file_index < n) c.requires.as_many (slice_get_within c.args.libraries.now.keys c.in-Some.file_index c.in_ok-library.library c.in-Some.ensures)) c.index-tables-file_index.is (c.has_path.ensures names gives.index)
 
 pub returns : goal.returns
 returns c = λ names compiler files gives.

@@ -10,4 +10,4 @@ pub returns-in-None : goal.returns-in-None
 returns-in-None c = λ names are. has_unnamed names c.args.paths.now.keys c.args.path.now (table_view c.args.table.now) are (subst (λ (key : FileName). ¬ Contains c.args.paths.now.keys key) c.in_ok-key.ensures c.in-None.ensures)
 
 pub returns : goal.returns
-returns c = λ names are. has_named names c.args.paths.now.keys c.args.path.now c.in-Some._place (table_view c.args.table.now) c.is_wanted.result are (subst (λ (key : FileName). slice_get c.args.paths.now.keys c.in-Some._place ≡ Some key) c.in_ok-key.ensures c.in-Some.ensures) c.is_wanted.ensures
+returns c = λ names are. has_named names c.args.paths.now.keys c.args.path.now c.in-Some._index (table_view c.args.table.now) c.is_wanted.result are (subst (λ (key : FileName). slice_get c.args.paths.now.keys c.in-Some._index ≡ Some key) c.in_ok-key.ensures c.in-Some.ensures) c.is_wanted.ensures

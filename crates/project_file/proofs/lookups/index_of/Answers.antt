@@ -1,7 +1,7 @@
 -- What remains to be proved of `index_of`.
 use Rattle.std.proofs.Common.{subst}
 use Rattle.base.specs.declared.file.FileName.{FileName}
-use Rattle.base_numbering.specs.Numbers.{IsNumbered}
+use Rattle.base_collections.specs.Numbers.{IsNumbered}
 use Rattle.project_file.proofs.FewFiles.{alone_more_name}
 use Rattle.project_file.proofs.lookups.index_of.Goals as goal
 

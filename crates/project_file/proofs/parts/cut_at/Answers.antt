@@ -1,11 +1,11 @@
 -- What remains to be proved of `cut_at`.
 use Rattle.std.proofs.Common.{ℕ, eqb, sym}
 use Rattle.std.proofs.lemmas.List.{take_rest}
-use Rattle.project_file.proofs.Splits.{split_at_mark, split_no_mark}
+use Rattle.project_file.proofs.Splits.{split_at_delimiter, split_no_delimiter}
 use Rattle.project_file.proofs.parts.cut_at.Goals as goal
 
 pub returns-in-None-clause-parts : goal.returns-in-None-clause-parts
-returns-in-None-clause-parts c = split_no_mark (λ (byte : ℕ). eqb byte c.args.mark) c.args.bytes.now (sym c.in-None.ensures)
+returns-in-None-clause-parts c = split_no_delimiter (λ (byte : ℕ). eqb byte c.args.delimiter) c.args.bytes.now (sym c.in-None.ensures)
 
 pub returns-in-Some-clause-parts : goal.returns-in-Some-clause-parts
-returns-in-Some-clause-parts c = rw take_rest (split_at_mark (λ (byte : ℕ). eqb byte c.args.mark) c.args.bytes.now c.in-Some.at 0 (sym c.in-Some.ensures)).1
+returns-in-Some-clause-parts c = rw take_rest (split_at_delimiter (λ (byte : ℕ). eqb byte c.args.delimiter) c.args.bytes.now c.in-Some.at 0 (sym c.in-Some.ensures)).1

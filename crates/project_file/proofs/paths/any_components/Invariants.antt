@@ -1,4 +1,4 @@
--- What the loop of `any_components` keeps: the row is new from a place on; and why it ends.
+-- What the loop of `any_components` keeps: the row is new from an index on; and why it ends.
 use Rattle.std.proofs.Common.{◌≡◌, ◌≤◌, ◌+◌, ℕ, Bool, List, length}
 use Rattle.project_file.specs.PathRows.{IsRow, IsRowFrom, any_end}
 use Rattle.project_file.proofs.paths.any_components.Given as goal

@@ -1,4 +1,4 @@
--- What the loop of `fits_parts` keeps: the row of the parts from a place on; and why it ends.
+-- What the loop of `fits_parts` keeps: the row of the parts from an index on; and why it ends.
 use Rattle.std.proofs.Common.{◌≤◌, length, drop}
 use Rattle.project_file.specs.PathRows.{IsRow, fits_parts}
 use Rattle.project_file.proofs.paths.fits_parts.Given as goal

@@ -1,7 +1,7 @@
 -- What remains to be proved of `one_component`.
 use Rattle.std.proofs.Common.{◌∙◌, arith}
 use Rattle.std.proofs.lemmas.List.{length-set}
-use Rattle.test_select.specs.Segments.{is_match}
+use Rattle.testbench_select.specs.Segments.{is_match}
 use Rattle.project_file.proofs.PathSteps.{one_step, one_last}
 use Rattle.project_file.proofs.paths.one_component.Goals as goal
 

@@ -1,7 +1,7 @@
--- What the loop of `one_component` keeps: the row is new before a place.
+-- What the loop of `one_component` keeps: the row is new before an index.
 use Rattle.std.proofs.Common.{◌≡◌, ◌+◌, ◌≤◌, ℕ, Bool, List, length}
-use Rattle.test_select.specs.Segments.{is_match}
-use Rattle.test_select.specs.Fits.{first_is}
+use Rattle.testbench_select.specs.Segments.{is_match}
+use Rattle.testbench_select.specs.Fits.{first_is}
 use Rattle.project_file.specs.PathRows.{IsRow, IsRowFrom}
 use Rattle.project_file.proofs.paths.one_component.Given as goal
 

@@ -4,7 +4,7 @@ use Rattle.std.proofs.lemmas.Result.{IfOk-weaker}
 use Rattle.base.specs.declared.graph.Entry.{Entry}
 use Rattle.base.specs.Graphs.{IsGraph}
 use Rattle.base.specs.View.{part}
-use Rattle.order_spec.specs.LinkedGraph.{linked}
+use Rattle.order.specs.LinkedGraph.{linked}
 use Rattle.project_views.proofs.Parts.{part_is_graph}
 use Rattle.project_minimal.proofs.NeededParts.{linked_part_of}
 use Rattle.project_minimal.proofs.graphs.minimal_graph.Goals as goal

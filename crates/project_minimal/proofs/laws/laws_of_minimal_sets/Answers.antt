@@ -1,6 +1,6 @@
 -- By the lemmas on the least set and on the parts.
 use Rattle.std.proofs.Common.{length}
-use Rattle.vhdl_minimal_set.proofs.Least.{is_needy, least}
+use Rattle.project_minimal.proofs.Least.{is_needy, least}
 use Rattle.project_minimal.proofs.NeededParts.{linked_part, listed_part}
 use Rattle.project_minimal.proofs.laws.laws_of_minimal_sets.Goals as goal
 

@@ -1,7 +1,7 @@
 -- What the loop of `are_many` keeps: so many cases may still come.
 use Rattle.std.proofs.Common.{◌≡◌, ◌+◌, take}
 use Rattle.base.specs.declared.limits.TheConstants.{CASE_LIMIT}
-use Rattle.test_select.specs.Selection.{count_of_tests}
+use Rattle.testbench_select.specs.Selection.{count_of_tests}
 use Rattle.project_reading.proofs.linking.are_many.Given as goal
 
 abbrev pub invariant-loop-i : goal.invariant-loop-i

@@ -12,7 +12,7 @@ pub returns-in_err-project-clause-reading : goal.returns-in_err-project-clause-r
 unfolding project_reading
 returns-in_err-project-clause-reading g c =
     let p = err_from_is_err_and c.from_residual.result c.from_residual.ensures.1 in
-    rw (p.1, p.2) (λ scan is tells. no_project c.args.wish.now scan (g.T.Tree.file c.args.tree.now) (project_in (g.T.Tree.file c.args.tree.now) (g.T.Tree.listed c.args.tree.now)) c.in_err-project.field-0.0 (c.in_err-project.ensures.project tells))
+    rw (p.1, p.2) (λ scan is tells. no_project c.args.query.now scan (g.T.Tree.file c.args.tree.now) (project_in (g.T.Tree.file c.args.tree.now) (g.T.Tree.listed c.args.tree.now)) c.in_err-project.field-0.0 (c.in_err-project.ensures.project tells))
 
 -- the first of the paths that are to be read
 first_paths : (file : List ℕ → Option (List ℕ)) (listed old new : List (List ℕ)) → AsksFirst (project_file_paths file) old new → AsksFirst (project_paths file listed) old new
@@ -27,8 +27,8 @@ returns-in_err-project-clause-asked g c =
 pub returns-clause-reading : goal.returns-clause-reading
 unfolding project_reading
 returns-clause-reading g c = λ scan is tells.
-    goes_on (sources_reading c.args.wish.now scan (g.T.Tree.file c.args.tree.now)) (project_in (g.T.Tree.file c.args.tree.now) (g.T.Tree.listed c.args.tree.now)) c.in_ok-project.project c.read_sources.result (c.in_ok-project.ensures.project tells)
-    (subst (λ (file : List ℕ → Option (List ℕ)). LeadsTo (sources_reading c.args.wish.now scan file c.in_ok-project.project) c.read_sources.result) c.in_ok-project.ensures.same (c.read_sources.ensures.reading scan is tells))
+    goes_on (sources_reading c.args.query.now scan (g.T.Tree.file c.args.tree.now)) (project_in (g.T.Tree.file c.args.tree.now) (g.T.Tree.listed c.args.tree.now)) c.in_ok-project.project c.read_sources.result (c.in_ok-project.ensures.project tells)
+    (subst (λ (file : List ℕ → Option (List ℕ)). LeadsTo (sources_reading c.args.query.now scan file c.in_ok-project.project) c.read_sources.result) c.in_ok-project.ensures.same (c.read_sources.ensures.reading scan is tells))
 
 pub returns-clause-asked : goal.returns-clause-asked
 unfolding project_paths

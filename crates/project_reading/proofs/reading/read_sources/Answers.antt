@@ -10,4 +10,4 @@ use Rattle.project_reading.proofs.reading.read_sources.Goals as goal
 pub returns-clause-reading : goal.returns-clause-reading
 returns-clause-reading g c = λ scan is tells.
     let few : nat_le (length c.args.project.files) FILE_LIMIT ≡ true = le-leb (length c.args.project.files) FILE_LIMIT (omega (arith, c.len.ensures, c.if-len-gt-MOST_FILES.false)) in
-    subst (λ (fits : Bool). LeadsTo (if fits then files_reading c.args.wish.now scan (g.T.Tree.file c.args.tree.now) c.args.project else Over limit.Files FILE_LIMIT) c.read_files.result) (sym few) (c.read_files.ensures.reading scan is tells)
+    subst (λ (fits : Bool). LeadsTo (if fits then files_reading c.args.query.now scan (g.T.Tree.file c.args.tree.now) c.args.project else Over limit.Files FILE_LIMIT) c.read_files.result) (sym few) (c.read_files.ensures.reading scan is tells)

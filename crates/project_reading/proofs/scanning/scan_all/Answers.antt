@@ -3,7 +3,7 @@ use Rattle.std.proofs.Common.{ℕ, List, Err, get_or, subst, sym}
 use Rattle.std.proofs.lemmas.Result.{err_from_is_err_and}
 use Rattle.base.specs.declared.project.ProjectFile.{ProjectFile}
 use Rattle.vhdl_spec.specs.Scans.{IsScanOf}
-use Rattle.vhdl_outlines.specs.Outlines.{HasAdded}
+use Rattle.vhdl_outline.specs.Outlines.{HasAdded}
 use Rattle.project_reading.specs.Scanning.{GivesScan}
 use Rattle.project_reading.proofs.ScanLemmas.{AreFirst, all_first, no_scan_then, none_first, one_more}
 use Rattle.project_reading.proofs.scanning.scan_all.Goals as goal

@@ -30,6 +30,7 @@ loop-file-preserved g c =
       short = subst (All (λ (text : List ℕ). length text ≤ TEXT_LIMIT)) (sym pushed) (All-push (λ (text : List ℕ). length text ≤ TEXT_LIMIT) c.loop-file.texts c.in_ok-text.text i.short c.in_ok-text.ensures.short);
       same = c.in_ok-text.ensures.same ∙ i.same;
       same_list = c.in_ok-text.ensures.same_list ∙ i.same_list;
+      kept = c.in_ok-text.ensures.kept ∙ i.kept;
       asked = one_more_asked c.args.files.now c.loop-file.file-index c.file-item.result _ _ c.loop-file-test.true c.file-item.is i.asked _ c.in_ok-text.ensures.asked;
       counts = c.in_ok-text.ensures.cause ∙ i.counts;
       told = λ tells. rw (pushed, bytes) (text_then (g.T.Tree.file c.args.tree.now) c.loop-file.total c.args.files.now c.loop-file.file-index c.file-item.result c.loop-file.texts _ c.loop-file-test.true c.file-item.is (i.told tells) c.in_ok-text.text (rw i.same at (c.in_ok-text.ensures.text tells)));

@@ -14,6 +14,7 @@ invariant-loop-file g l = record {
   short : All (λ text. length text ≤ TEXT_LIMIT) l.texts;
   same : g.T.Tree.file l.tree ≡ g.T.Tree.file l.fn.tree;
   same_list : g.T.Tree.listed l.tree ≡ g.T.Tree.listed l.fn.tree;
+  kept : g.T.Tree.kept l.tree ≡ g.T.Tree.kept l.fn.tree;
   asked : g.T.Tree.asked l.tree ≡ g.T.Tree.asked l.fn.tree ++ file_paths (take l.file-index l.files);
   counts : g.T.Tree.failed_reads l.tree ≡ g.T.Tree.failed_reads l.fn.tree;
   told : g.T.Tree.tells → after l.texts (texts_of (g.T.Tree.file l.fn.tree) l.total (drop l.file-index l.files)) ≡ texts_of (g.T.Tree.file l.fn.tree) 0 l.files;

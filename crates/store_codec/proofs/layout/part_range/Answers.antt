@@ -1,6 +1,6 @@
 use Rattle.std.proofs.Common.{◌≡◌, ℕ, ◌++◌, Option, ap, refl, sym, ◌∙◌}
-use Rattle.base_ranges.specs.TextRefs.{TextRef}
-use Rattle.base_ranges.specs.TextRefs.TextRef.{InFull}
+use Rattle.base_bytes.specs.TextRefs.{TextRef}
+use Rattle.base_bytes.specs.TextRefs.TextRef.{InFull}
 use Rattle.store_codec.specs.Forms.{text_ref_bytes}
 use Rattle.store_codec.specs.Writing.{part_ref, ref_or}
 use Rattle.store_codec.proofs.Layouts.{new_text_here, range_here}

@@ -1,16 +1,16 @@
 use Rattle.std.proofs.Common.{◌≡◌, ℕ, List, length, ◌≤◌, [], ◌∷◌, ◌++◌, take, drop, ap, ◌∙◌, arith}
 use Rattle.std.specs.Int.{w64, to_le_bytes}
 use Rattle.base.specs.Bytes.{text_bytes}
-use Rattle.store_journal.specs.Payloads.{header, mark}
+use Rattle.store_journal.specs.Payloads.{header, magic}
 use Rattle.store_journal.proofs.Headers.{write_begins, write_goes_on, write_ends}
 use Rattle.store_journal.proofs.layout.full_side.Goals as goal
 
 pub loop-i-init : goal.loop-i-init
 unfolding header
 loop-i-init c =
-    let begun : c.plain.new.self ≡ [] ++ take 9 (drop 1 c.mark_of.result) = c.in_ok-plain.ensures ∙ ap (λ (bs : List ℕ). bs ++ take 9 (drop 1 c.mark_of.result)) c.new-out.ensures in
-    let marked : 1 ∷ c.plain.new.self ≡ mark c.args.form = ap (λ (bs : List ℕ). 1 ∷ bs) begun ∙ ap (λ (bs : List ℕ). 1 ∷ take 9 (drop 1 bs)) c.mark_of.ensures in
-    let whole : 1 ∷ c.u64.new.self ≡ header c.args.form c.args.generation = ap (λ (bs : List ℕ). 1 ∷ bs) c.in_ok-u64.ensures ∙ ap (λ (bs : List ℕ). bs ++ to_le_bytes w64 c.args.generation) marked in
+    let begun : c.plain.new.self ≡ [] ++ take 9 (drop 1 c.magic_of.result) = c.in_ok-plain.ensures ∙ ap (λ (bs : List ℕ). bs ++ take 9 (drop 1 c.magic_of.result)) c.new-out.ensures in
+    let with_magic : 1 ∷ c.plain.new.self ≡ magic c.args.form = ap (λ (bs : List ℕ). 1 ∷ bs) begun ∙ ap (λ (bs : List ℕ). 1 ∷ take 9 (drop 1 bs)) c.magic_of.ensures in
+    let whole : 1 ∷ c.u64.new.self ≡ header c.args.form c.args.generation = ap (λ (bs : List ℕ). 1 ∷ bs) c.in_ok-u64.ensures ∙ ap (λ (bs : List ℕ). bs ++ to_le_bytes w64 c.args.generation) with_magic in
     write_begins c.args.form c.args.generation c.args.payloads.now c.u64.new.self whole
 
 pub loop-i-preserved : goal.loop-i-preserved

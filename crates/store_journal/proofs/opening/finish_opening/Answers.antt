@@ -16,62 +16,62 @@ pub returns-then-not-found-clause-in_step : goal.returns-then-not-found-clause-i
 returns-then-not-found-clause-in_step g c = λ told.
     let old = g.D.Disk.moments c.args.disk.now in
     let live = c.requires.live told in
-    let ends = found_ends c.args.form c.args.live.side c.args.live.generation c.args.found.len (g.T.Taker.taken c.args.found.payloads) (image_side c.args.live.side (reads_of old.now)) (reads_of old.now) live.counts live.generation refl (c.requires.end told) in
+    let ends = found_ends c.args.form c.args.live.side c.args.live.generation c.args.found.len (g.T.Visitor.taken c.args.found.payloads) (image_side c.args.live.side (reads_of old.now)) (reads_of old.now) live.counts live.generation refl (c.requires.end told) in
     let journal : JournalState = record { form = c.args.form; live = c.args.live.side; generation = c.args.live.generation; len = c.args.found.len; broken = false } in
-    let shut = shut_in_step journal (g.T.Taker.taken c.args.found.payloads) (reads_of old.now) old.now ends (λ one. unopened c.args.found.is_open c.if-not-found.true ((c.requires.gate told).1 one)) (c.requires.settled told) in
+    let shut = shut_in_step journal (g.T.Visitor.taken c.args.found.payloads) (reads_of old.now) old.now ends (λ one. unopened c.args.found.is_open c.if-not-found.true ((c.requires.commit_byte told).1 one)) (c.requires.settled told) in
     subst (λ (j : JournalState). IsInStep j old.now) (sym c.as_found.ensures.journal) shut
 
 pub returns-then-not-found-clause-payloads : goal.returns-then-not-found-clause-payloads
 returns-then-not-found-clause-payloads g c = λ told.
     let old = g.D.Disk.moments c.args.disk.now in
     let live = c.requires.live told in
-    let ends = found_ends c.args.form c.args.live.side c.args.live.generation c.args.found.len (g.T.Taker.taken c.args.found.payloads) (image_side c.args.live.side (reads_of old.now)) (reads_of old.now) live.counts live.generation refl (c.requires.end told) in
-    ap g.T.Taker.taken c.as_found.ensures.payloads ∙ sym (ends_payloads c.args.form c.args.live.side c.args.live.generation c.args.found.len (g.T.Taker.taken c.args.found.payloads) (reads_of old.now) ends)
+    let ends = found_ends c.args.form c.args.live.side c.args.live.generation c.args.found.len (g.T.Visitor.taken c.args.found.payloads) (image_side c.args.live.side (reads_of old.now)) (reads_of old.now) live.counts live.generation refl (c.requires.end told) in
+    ap g.T.Visitor.taken c.as_found.ensures.payloads ∙ sym (ends_payloads c.args.form c.args.live.side c.args.live.generation c.args.found.len (g.T.Visitor.taken c.args.found.payloads) (reads_of old.now) ends)
 
 pub returns-in_err-write_durably-clause-any_moment : goal.returns-in_err-write_durably-clause-any_moment
 returns-in_err-write_durably-clause-any_moment g c = λ told.
     let old = g.D.Disk.moments c.args.disk.now in
     let live = c.requires.live told in
-    let ends = found_ends c.args.form c.args.live.side c.args.live.generation c.args.found.len (g.T.Taker.taken c.args.found.payloads) (image_side c.args.live.side (reads_of old.now)) (reads_of old.now) live.counts live.generation refl (c.requires.end told) in
-    closing_moments c.args.form c.args.live.side c.args.live.generation c.args.found.len (g.T.Taker.taken c.args.found.payloads) (reads_of old.now) old (g.D.Disk.moments c.write_durably.new.disk) ends ((c.requires.gate told).0 c.if-not-found.false) (c.requires.settled told) (c.write_durably.ensures.moments told)
+    let ends = found_ends c.args.form c.args.live.side c.args.live.generation c.args.found.len (g.T.Visitor.taken c.args.found.payloads) (image_side c.args.live.side (reads_of old.now)) (reads_of old.now) live.counts live.generation refl (c.requires.end told) in
+    closing_moments c.args.form c.args.live.side c.args.live.generation c.args.found.len (g.T.Visitor.taken c.args.found.payloads) (reads_of old.now) old (g.D.Disk.moments c.write_durably.new.disk) ends ((c.requires.commit_byte told).0 c.if-not-found.false) (c.requires.settled told) (c.write_durably.ensures.moments told)
 
 pub returns-in_err-write_durably-clause-rests : goal.returns-in_err-write_durably-clause-rests
 returns-in_err-write_durably-clause-rests g c = λ told healthy.
     let old = g.D.Disk.moments c.args.disk.now in
     let live = c.requires.live told in
-    let ends = found_ends c.args.form c.args.live.side c.args.live.generation c.args.found.len (g.T.Taker.taken c.args.found.payloads) (image_side c.args.live.side (reads_of old.now)) (reads_of old.now) live.counts live.generation refl (c.requires.end told) in
-    absurd (healthy_shut c.args.form c.args.live.side c.args.live.generation c.args.found.len (g.T.Taker.taken c.args.found.payloads) (reads_of old.now) healthy ends ((c.requires.gate told).0 c.if-not-found.false))
+    let ends = found_ends c.args.form c.args.live.side c.args.live.generation c.args.found.len (g.T.Visitor.taken c.args.found.payloads) (image_side c.args.live.side (reads_of old.now)) (reads_of old.now) live.counts live.generation refl (c.requires.end told) in
+    absurd (healthy_shut c.args.form c.args.live.side c.args.live.generation c.args.found.len (g.T.Visitor.taken c.args.found.payloads) (reads_of old.now) healthy ends ((c.requires.commit_byte told).0 c.if-not-found.false))
 
 pub returns-clause-any_moment : goal.returns-clause-any_moment
 returns-clause-any_moment g c = λ told.
     let old = g.D.Disk.moments c.args.disk.now in
     let live = c.requires.live told in
-    let ends = found_ends c.args.form c.args.live.side c.args.live.generation c.args.found.len (g.T.Taker.taken c.args.found.payloads) (image_side c.args.live.side (reads_of old.now)) (reads_of old.now) live.counts live.generation refl (c.requires.end told) in
-    closing_moments c.args.form c.args.live.side c.args.live.generation c.args.found.len (g.T.Taker.taken c.args.found.payloads) (reads_of old.now) old (g.D.Disk.moments c.write_durably.new.disk) ends ((c.requires.gate told).0 c.if-not-found.false) (c.requires.settled told) (c.write_durably.ensures.moments told)
+    let ends = found_ends c.args.form c.args.live.side c.args.live.generation c.args.found.len (g.T.Visitor.taken c.args.found.payloads) (image_side c.args.live.side (reads_of old.now)) (reads_of old.now) live.counts live.generation refl (c.requires.end told) in
+    closing_moments c.args.form c.args.live.side c.args.live.generation c.args.found.len (g.T.Visitor.taken c.args.found.payloads) (reads_of old.now) old (g.D.Disk.moments c.write_durably.new.disk) ends ((c.requires.commit_byte told).0 c.if-not-found.false) (c.requires.settled told) (c.write_durably.ensures.moments told)
 
 pub returns-clause-rests : goal.returns-clause-rests
 returns-clause-rests g c = λ told healthy.
     let old = g.D.Disk.moments c.args.disk.now in
     let live = c.requires.live told in
-    let ends = found_ends c.args.form c.args.live.side c.args.live.generation c.args.found.len (g.T.Taker.taken c.args.found.payloads) (image_side c.args.live.side (reads_of old.now)) (reads_of old.now) live.counts live.generation refl (c.requires.end told) in
-    absurd (healthy_shut c.args.form c.args.live.side c.args.live.generation c.args.found.len (g.T.Taker.taken c.args.found.payloads) (reads_of old.now) healthy ends ((c.requires.gate told).0 c.if-not-found.false))
+    let ends = found_ends c.args.form c.args.live.side c.args.live.generation c.args.found.len (g.T.Visitor.taken c.args.found.payloads) (image_side c.args.live.side (reads_of old.now)) (reads_of old.now) live.counts live.generation refl (c.requires.end told) in
+    absurd (healthy_shut c.args.form c.args.live.side c.args.live.generation c.args.found.len (g.T.Visitor.taken c.args.found.payloads) (reads_of old.now) healthy ends ((c.requires.commit_byte told).0 c.if-not-found.false))
 
 pub returns-clause-in_step : goal.returns-clause-in_step
 returns-clause-in_step g c = λ told.
     let new = (g.D.Disk.moments c.write_durably.new.disk).now in
     let old = g.D.Disk.moments c.args.disk.now in
     let live = c.requires.live told in
-    let ends = found_ends c.args.form c.args.live.side c.args.live.generation c.args.found.len (g.T.Taker.taken c.args.found.payloads) (image_side c.args.live.side (reads_of old.now)) (reads_of old.now) live.counts live.generation refl (c.requires.end told) in
+    let ends = found_ends c.args.form c.args.live.side c.args.live.generation c.args.found.len (g.T.Visitor.taken c.args.found.payloads) (image_side c.args.live.side (reads_of old.now)) (reads_of old.now) live.counts live.generation refl (c.requires.end told) in
     let journal : JournalState = record { form = c.args.form; live = c.args.live.side; generation = c.args.live.generation; len = c.args.found.len; broken = false } in
-    let closed = closed_in_step journal (g.T.Taker.taken c.args.found.payloads) (reads_of old.now) old.now new ends (c.requires.settled told) (c.in_ok-write_durably.ensures.written told) in
+    let closed = closed_in_step journal (g.T.Visitor.taken c.args.found.payloads) (reads_of old.now) old.now new ends (c.requires.settled told) (c.in_ok-write_durably.ensures.written told) in
     subst (λ (j : JournalState). IsInStep j new) (sym c.as_found-2.ensures.journal) closed
 
 pub returns-clause-payloads : goal.returns-clause-payloads
 returns-clause-payloads g c = λ told.
     let old = g.D.Disk.moments c.args.disk.now in
     let live = c.requires.live told in
-    let ends = found_ends c.args.form c.args.live.side c.args.live.generation c.args.found.len (g.T.Taker.taken c.args.found.payloads) (image_side c.args.live.side (reads_of old.now)) (reads_of old.now) live.counts live.generation refl (c.requires.end told) in
-    ap g.T.Taker.taken c.as_found-2.ensures.payloads ∙ sym (ends_payloads c.args.form c.args.live.side c.args.live.generation c.args.found.len (g.T.Taker.taken c.args.found.payloads) (reads_of old.now) ends)
+    let ends = found_ends c.args.form c.args.live.side c.args.live.generation c.args.found.len (g.T.Visitor.taken c.args.found.payloads) (image_side c.args.live.side (reads_of old.now)) (reads_of old.now) live.counts live.generation refl (c.requires.end told) in
+    ap g.T.Visitor.taken c.as_found-2.ensures.payloads ∙ sym (ends_payloads c.args.form c.args.live.side c.args.live.generation c.args.found.len (g.T.Visitor.taken c.args.found.payloads) (reads_of old.now) ends)
 
 pub returns-then-not-found-clause-holds : goal.returns-then-not-found-clause-holds
 returns-then-not-found-clause-holds g c = λ told. at_once_holds (g.D.Disk.moments c.args.disk.now) (c.requires.settled told)
@@ -80,12 +80,12 @@ pub returns-in_err-write_durably-clause-holds : goal.returns-in_err-write_durabl
 returns-in_err-write_durably-clause-holds g c = λ told.
     let old = g.D.Disk.moments c.args.disk.now in
     let live = c.requires.live told in
-    let ends = found_ends c.args.form c.args.live.side c.args.live.generation c.args.found.len (g.T.Taker.taken c.args.found.payloads) (image_side c.args.live.side (reads_of old.now)) (reads_of old.now) live.counts live.generation refl (c.requires.end told) in
-    closing_holds c.args.form c.args.live.side c.args.live.generation c.args.found.len (g.T.Taker.taken c.args.found.payloads) (reads_of old.now) old (g.D.Disk.moments c.write_durably.new.disk) ends ((c.requires.gate told).0 c.if-not-found.false) (c.requires.settled told) (c.write_durably.ensures.moments told)
+    let ends = found_ends c.args.form c.args.live.side c.args.live.generation c.args.found.len (g.T.Visitor.taken c.args.found.payloads) (image_side c.args.live.side (reads_of old.now)) (reads_of old.now) live.counts live.generation refl (c.requires.end told) in
+    closing_holds c.args.form c.args.live.side c.args.live.generation c.args.found.len (g.T.Visitor.taken c.args.found.payloads) (reads_of old.now) old (g.D.Disk.moments c.write_durably.new.disk) ends ((c.requires.commit_byte told).0 c.if-not-found.false) (c.requires.settled told) (c.write_durably.ensures.moments told)
 
 pub returns-clause-holds : goal.returns-clause-holds
 returns-clause-holds g c = λ told.
     let old = g.D.Disk.moments c.args.disk.now in
     let live = c.requires.live told in
-    let ends = found_ends c.args.form c.args.live.side c.args.live.generation c.args.found.len (g.T.Taker.taken c.args.found.payloads) (image_side c.args.live.side (reads_of old.now)) (reads_of old.now) live.counts live.generation refl (c.requires.end told) in
-    closing_holds c.args.form c.args.live.side c.args.live.generation c.args.found.len (g.T.Taker.taken c.args.found.payloads) (reads_of old.now) old (g.D.Disk.moments c.write_durably.new.disk) ends ((c.requires.gate told).0 c.if-not-found.false) (c.requires.settled told) (c.write_durably.ensures.moments told)
+    let ends = found_ends c.args.form c.args.live.side c.args.live.generation c.args.found.len (g.T.Visitor.taken c.args.found.payloads) (image_side c.args.live.side (reads_of old.now)) (reads_of old.now) live.counts live.generation refl (c.requires.end told) in
+    closing_holds c.args.form c.args.live.side c.args.live.generation c.args.found.len (g.T.Visitor.taken c.args.found.payloads) (reads_of old.now) old (g.D.Disk.moments c.write_durably.new.disk) ends ((c.requires.commit_byte told).0 c.if-not-found.false) (c.requires.settled told) (c.write_durably.ensures.moments told)

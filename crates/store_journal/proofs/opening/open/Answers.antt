@@ -40,4 +40,4 @@ finish_opening-requires-clause-end g c = λ told.
     let side = c.args.live.side in
     let there : (side_of side (moments c.args.disk.now).now).reads ≡ image_side side (reads_of (moments c.read_payloads.new.disk).now) =
     sym (side_reads side (moments c.args.disk.now).now) ∙ ap (λ (d : DiskState). image_side side (reads_of d)) (sym (c.in_ok-found.ensures.same told)) in
-    subst (EndsAt c.in_ok-found.found.len (g.T.Taker.taken c.in_ok-found.found.payloads)) there (c.in_ok-found.ensures.end told)
+    subst (EndsAt c.in_ok-found.found.len (g.T.Visitor.taken c.in_ok-found.found.payloads)) there (c.in_ok-found.ensures.end told)

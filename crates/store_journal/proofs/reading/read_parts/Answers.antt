@@ -14,7 +14,7 @@ loop-count-init g c = record {
   read = λ told.
       let reads = (side_of c.args.live.side (g.D.Disk.moments c.args.disk.now).now).reads in
       rw c.requires.none (read_begins_at reads (omega (arith, c.requires.size, c.requires.len told)));
-  lends = refl;
+  borrows = refl;
   window = c.requires.window;
   same = λ told. refl;
   moments = λ told. goes_nowhere (g.D.Disk.moments c.args.disk.now);
@@ -24,11 +24,11 @@ loop-count-init g c = record {
 pub loop-count-preserved : goal.loop-count-preserved
 loop-count-preserved g c =
     let moments = g.D.Disk.moments in
-    let taken = g.T.Taker.taken in
-    let gate = c.loop-count.gate in
+    let taken = g.T.Visitor.taken in
+    let commit_byte = c.loop-count.commit_byte in
     let count = c.in-Some.count in
     let so_far = c.loop-count.invariant in
-    let within : gate + 5 + count < c.args.live.len = subst (λ (o : Option ℕ). IfSome o (λ (n : ℕ). gate + 5 + n < c.args.live.len)) c.in-Some.is c.in_ok-count.ensures.within in
+    let within : commit_byte + 5 + count < c.args.live.len = subst (λ (o : Option ℕ). IfSome o (λ (n : ℕ). commit_byte + 5 + n < c.args.live.len)) c.in-Some.is c.in_ok-count.ensures.within in
     record {
       from = omega (arith, so_far.from);
       to = omega (arith, within);
@@ -36,10 +36,10 @@ loop-count-preserved g c =
           let reads = (side_of c.args.live.side (moments c.args.disk.now).now).reads in
           let before : (side_of c.args.live.side (moments c.loop-count.disk).now).reads ≡ reads = ap (λ (d : DiskState). (side_of c.args.live.side d).reads) (so_far.same told) in
           let same : (side_of c.args.live.side (moments c.next_count.new.disk).now).reads ≡ reads = ap (λ (d : DiskState). (side_of c.args.live.side d).reads) (c.in_ok-count.ensures.same told) ∙ before in
-          let head = subst (IsCountOf (drop gate reads)) c.in-Some.is (subst (λ (l : List ℕ). IsCountOf (drop gate l) c.in_ok-count.field-0) before (c.in_ok-count.ensures.is told)) in
-          let more : taken c.read_payload.new.taker ≡ taken c.loop-count.taker ++ bytes_at (gate + 5) count reads ∷ [] = c.in_ok-read_payload.ensures.taken told ∙ ap (λ (l : List ℕ). taken c.loop-count.taker ++ bytes_at (gate + 5) count l ∷ []) same in
-          subst (λ (ps : List (List ℕ)). AreReadTo reads ps (gate + 5 + count)) (sym more) (read_next reads (taken c.loop-count.taker) gate count (so_far.read told) head (omega arith) (omega (arith, within, c.requires.len told)));
-      lends = c.in_ok-read_payload.ensures.lends ∙ so_far.lends;
+          let head = subst (IsCountOf (drop commit_byte reads)) c.in-Some.is (subst (λ (l : List ℕ). IsCountOf (drop commit_byte l) c.in_ok-count.field-0) before (c.in_ok-count.ensures.is told)) in
+          let more : taken c.read_payload.new.visitor ≡ taken c.loop-count.visitor ++ bytes_at (commit_byte + 5) count reads ∷ [] = c.in_ok-read_payload.ensures.taken told ∙ ap (λ (l : List ℕ). taken c.loop-count.visitor ++ bytes_at (commit_byte + 5) count l ∷ []) same in
+          subst (λ (ps : List (List ℕ)). AreReadTo reads ps (commit_byte + 5 + count)) (sym more) (read_next reads (taken c.loop-count.visitor) commit_byte count (so_far.read told) head (omega arith) (omega (arith, within, c.requires.len told)));
+      borrows = c.in_ok-read_payload.ensures.borrows ∙ so_far.borrows;
       window = λ told.
           let same = ap (λ (d : DiskState). (side_of c.args.live.side d).reads) (c.in_ok-count.ensures.same told ∙ so_far.same told) in
           subst (λ (l : List ℕ). IsWindowOf l c.read_payload.new.window) same (c.in_ok-read_payload.ensures.window told);
@@ -73,9 +73,9 @@ returns-clause-moments g c = λ told.
 pub returns-clause-end : goal.returns-clause-end
 returns-clause-end g c = λ told.
     let moments = g.D.Disk.moments in
-    let gate = c.loop-count.gate in
+    let commit_byte = c.loop-count.commit_byte in
     let so_far = c.loop-count.invariant in
     let reads = (side_of c.args.live.side (moments c.args.disk.now).now).reads in
     let same : (side_of c.args.live.side (moments c.loop-count.disk).now).reads ≡ reads = ap (λ (d : DiskState). (side_of c.args.live.side d).reads) (so_far.same told) in
-    let is = subst (λ (l : List ℕ). IsCountOf (drop gate l) c.in_ok-count.field-0) same (c.in_ok-count.ensures.is told) in
-    read_to_end reads (g.T.Taker.taken c.loop-count.taker) gate (gate + 1) (so_far.read told) (none_next (drop gate reads) c.in_ok-count.field-0 is c.in_default.not-Some) refl
+    let is = subst (λ (l : List ℕ). IsCountOf (drop commit_byte l) c.in_ok-count.field-0) same (c.in_ok-count.ensures.is told) in
+    read_to_end reads (g.T.Visitor.taken c.loop-count.visitor) commit_byte (commit_byte + 1) (so_far.read told) (none_next (drop commit_byte reads) c.in_ok-count.field-0 is c.in_default.not-Some) refl

@@ -7,5 +7,5 @@ abbrev pub invariant-loop-dep : goal.invariant-loop-dep
 invariant-loop-dep l = record {
   count : length l.state ≡ length l.fn.state;
   held : (k : ℕ) → k < l.dep-index → slice_index l.fn.state (get_or l.deps k 0) ≢ 0;
-  marks : Covers l.deps l.fn.state l.state l.dep-index;
+  flags : Covers l.deps l.fn.state l.state l.dep-index;
 }

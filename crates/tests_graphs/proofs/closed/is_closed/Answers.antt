@@ -6,7 +6,7 @@ use Rattle.tests_graphs.proofs.closed.is_closed.Goals as goal
 
 pub returns : goal.returns
 returns c =
-    let same : (e : Entry) → get_or c.args.entries.now c.args.place e ≡ c.index-entries-place.result = λ e. get_or_default c.args.entries.now c.args.place e c.index-entries-place.result c.requires.place ∙ sym c.index-entries-place.is in (
-      λ t e. subst (HoldsAll c.args.entries.now) (c.as_slice-deps.ensures ∙ ap (λ (x : Entry). x.deps) (same c.index-entries-place.result ∙ sym (same e))) (c.all_cover.ensures.0 t),
-      λ h. c.all_cover.ensures.1 (subst (HoldsAll c.args.entries.now) (sym c.as_slice-deps.ensures) (h c.index-entries-place.result)),
+    let same : (e : Entry) → get_or c.args.entries.now c.args.rank e ≡ c.index-entries-rank.result = λ e. get_or_default c.args.entries.now c.args.rank e c.index-entries-rank.result c.requires.rank ∙ sym c.index-entries-rank.is in (
+      λ t e. subst (HoldsAll c.args.entries.now) (c.as_slice-deps.ensures ∙ ap (λ (x : Entry). x.deps) (same c.index-entries-rank.result ∙ sym (same e))) (c.all_cover.ensures.0 t),
+      λ h. c.all_cover.ensures.1 (subst (HoldsAll c.args.entries.now) (sym c.as_slice-deps.ensures) (h c.index-entries-rank.result)),
     )

@@ -2,8 +2,8 @@ use Rattle.std.proofs.Common.{◌≡◌, ◌∙◌, ◌++◌, ◌∷◌, [], tru
 use Rattle.std.proofs.lemmas.Bool.{not-true}
 use Rattle.std.proofs.lemmas.List.{map_more, take_all}
 use Rattle.base.specs.declared.graph.Entry.{Entry}
-use Rattle.base_name_set.specs.Names.{Holds}
-use Rattle.base_name_set.proofs.SameNames.{holds_more}
+use Rattle.base_collections.specs.Names.{Holds}
+use Rattle.base_collections.proofs.SameNames.{holds_more}
 use Rattle.tests_graphs.proofs.Distinct.{Distinct, distinct_more, none_before}
 use Rattle.tests_graphs.proofs.names.are_distinct.Goals as goal
 

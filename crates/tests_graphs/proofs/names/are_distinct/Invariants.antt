@@ -1,6 +1,6 @@
 use Rattle.std.proofs.Common.{◌≢◌, map, take}
 use Rattle.std.specs.Prelude.{AllPairs}
-use Rattle.base_name_set.specs.Names.{Holds}
+use Rattle.base_collections.specs.Names.{Holds}
 use Rattle.tests_graphs.proofs.names.are_distinct.Given as goal
 
 abbrev pub invariant-loop-entry : goal.invariant-loop-entry

@@ -1,7 +1,7 @@
 use Rattle.std.proofs.Common.{◌≡◌, ◌+◌, ◌-◌, ◌∙◌, length, ap, sym, arith}
 use Rattle.std.proofs.lemmas.Bool.{eqb-true}
 use Rattle.base.specs.declared.graph.Entry.{Entry}
-use Rattle.store_node_codec.proofs.Standing.{is_whole}
+use Rattle.store_form_2.proofs.StandingRows.{is_whole}
 use Rattle.tests_graphs.proofs.Standing.{whole_count}
 use Rattle.tests_graphs.proofs.views.is_whole.Goals as goal
 

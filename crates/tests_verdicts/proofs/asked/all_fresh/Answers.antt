@@ -2,8 +2,8 @@
 use Rattle.std.proofs.Common.{◌≡◌, ◌≤◌, length, All, subst, arith}
 use Rattle.std.proofs.lemmas.List.{take_all}
 use Rattle.std.proofs.lemmas.List.Elements.{All-more}
-use Rattle.build_slots.specs.declared.plans.Need.{Need}
-use Rattle.build_slots.specs.declared.plans.Need.TheVariants.{Fresh}
+use Rattle.run_scheduler.specs.declared.plans.Need.{Need}
+use Rattle.run_scheduler.specs.declared.plans.Need.TheVariants.{Fresh}
 use Rattle.tests_verdicts.proofs.asked.all_fresh.Goals as goal
 
 abbrev IsMet : Need → Type 0

@@ -1,6 +1,6 @@
 -- So far each is met.
 use Rattle.std.proofs.Common.{◌≡◌, All, take}
-use Rattle.build_slots.specs.declared.plans.Need.TheVariants.{Fresh}
+use Rattle.run_scheduler.specs.declared.plans.Need.TheVariants.{Fresh}
 use Rattle.tests_verdicts.proofs.asked.all_fresh.Given as goal
 
 abbrev pub invariant-loop-need : goal.invariant-loop-need

@@ -1,7 +1,7 @@
 -- Each need is met.
 use Rattle.std.proofs.Common.{◌≡◌, All, subst, List}
-use Rattle.build_slots.specs.declared.plans.Need.{Need}
-use Rattle.build_slots.specs.declared.plans.Need.TheVariants.{Fresh}
+use Rattle.run_scheduler.specs.declared.plans.Need.{Need}
+use Rattle.run_scheduler.specs.declared.plans.Need.TheVariants.{Fresh}
 use Rattle.tests_verdicts.proofs.Recorded.{all_recorded}
 use Rattle.tests_verdicts.proofs.asked.are_recorded.Goals as goal
 

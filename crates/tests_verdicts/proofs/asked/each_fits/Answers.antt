@@ -2,7 +2,7 @@
 use Rattle.std.proofs.Common.{◌≤◌, length, All, subst, arith}
 use Rattle.std.proofs.lemmas.List.{take_all}
 use Rattle.std.proofs.lemmas.List.Elements.{All-more}
-use Rattle.test_spec.specs.Runs.{FitsRun}
+use Rattle.testbench_runs.specs.Runs.{FitsRun}
 use Rattle.tests_verdicts.proofs.asked.each_fits.Goals as goal
 
 pub loop-run-preserved : goal.loop-run-preserved

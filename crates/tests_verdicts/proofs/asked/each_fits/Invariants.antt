@@ -1,6 +1,6 @@
 -- So far each fits.
 use Rattle.std.proofs.Common.{All, take}
-use Rattle.test_spec.specs.Runs.{FitsRun}
+use Rattle.testbench_runs.specs.Runs.{FitsRun}
 use Rattle.tests_verdicts.proofs.asked.each_fits.Given as goal
 
 abbrev pub invariant-loop-run : goal.invariant-loop-run

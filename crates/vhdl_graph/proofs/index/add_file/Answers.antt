@@ -27,7 +27,7 @@ loop-unit-preserved c =
     let here : unit ≡ get_or c.args.designs.now i unit = c.unit-item.is in
     let within : i < length c.args.designs.now = c.loop-unit-test.true in
     record {
-      places = c.in_ok-add_unit.ensures.places;
+      indices = c.in_ok-add_unit.ensures.indices;
       added = λ units named text scan is got.
           let added = c.loop-unit.invariant.added units named text scan is got in
           added_more c.args.project.now.files units (map (link_unit c.args.file named text scan) (take i c.args.designs.now)) (link_unit c.args.file named text scan unit) c.add_unit.new.index

@@ -7,7 +7,7 @@ use Rattle.base.specs.declared.design.Scan.{Scan}
 use Rattle.base.specs.declared.design.Unit.{Unit as DesignUnit}
 use Rattle.base.specs.declared.project.ProjectFile.{ProjectFile}
 use Rattle.vhdl_spec.specs.Dependencies.{LinkUnit, first_duplicate, link_unit, link_units}
-use Rattle.vhdl_outlines.proofs.OutlineLemmas.{got_file}
+use Rattle.vhdl_outline.proofs.OutlineLemmas.{got_file}
 use Rattle.vhdl_graph.specs.Indexes.{IsIndex}
 use Rattle.vhdl_graph.proofs.IndexLemmas.{all_units, file_fault, files_more, files_after, no_file, none_more}
 use Rattle.vhdl_graph.proofs.index.index_of.Goals as goal
@@ -32,7 +32,7 @@ returns-in_err-add_file-clause-index c texts scans are =
 
 pub loop-file-preserved : goal.loop-file-preserved
 loop-file-preserved c = record {
-  places = c.in_ok-add_file.ensures.places;
+  indices = c.in_ok-add_file.ensures.indices;
   indexed = λ texts scans are.
       let at : ℕ = c.loop-file.file in
       let files : List ProjectFile = c.args.project.now.files in

@@ -14,13 +14,13 @@ use Rattle.base.specs.declared.linking.Warning.{Warning}
 use Rattle.base.specs.declared.project.Project.{Project}
 use Rattle.base.specs.declared.project.ProjectFile.{ProjectFile}
 use Rattle.base.specs.PresentGraph.{below}
-use Rattle.base_position_set.specs.declared.set.PositionSet.{PositionSet}
-use Rattle.base_position_set.specs.Positions.{has}
+use Rattle.base_collections.specs.declared.set.PositionSet.{PositionSet}
+use Rattle.base_collections.specs.Positions.{has}
 use Rattle.vhdl_spec.specs.Dependencies.{LinkUnit, depends_on, edges_of, first_missing, first_some, link_unit, link_units, missing_of, warnings_of}
-use Rattle.vhdl_outlines.specs.declared.outlines.FileOutline.{FileOutline}
-use Rattle.vhdl_outlines.specs.Outlines.{IsOutlineOf, OutlineLiesIn}
-use Rattle.vhdl_outlines.proofs.OutlineLemmas.{got_file}
-use Rattle.order_spec.proofs.Finds.{filter_below}
+use Rattle.vhdl_outline.specs.declared.outlines.FileOutline.{FileOutline}
+use Rattle.vhdl_outline.specs.Outlines.{IsOutlineOf, OutlineLiesIn}
+use Rattle.vhdl_outline.proofs.OutlineLemmas.{got_file}
+use Rattle.order.proofs.Finds.{filter_below}
 use Rattle.vhdl_graph.specs.Linking.{StandAll, unit_lacks, refers_from}
 use Rattle.vhdl_graph.proofs.IndexLemmas.{all_units, fault_on, files_after, files_more, no_file}
 use Rattle.vhdl_graph.proofs.FileLemmas.{any_map, below_none, file_missing, in_file, map_below, missing_of_file, none_missing, row_is, stand_all}

@@ -1,7 +1,7 @@
 -- So far the files up to the position are linked.
 use Rattle.std.proofs.Common.{List}
 use Rattle.base.specs.declared.design.Scan.{Scan}
-use Rattle.vhdl_outlines.specs.Outlines.{AreOutlinesOf}
+use Rattle.vhdl_outline.specs.Outlines.{AreOutlinesOf}
 use Rattle.vhdl_graph.proofs.FileLemmas.{AreLinked}
 use Rattle.vhdl_graph.proofs.linking.link_files.Given as goal
 

@@ -2,7 +2,7 @@
 use Rattle.std.proofs.Common.{◌∙◌, sym, subst}
 use Rattle.base.specs.declared.refs.Ref.{Ref}
 use Rattle.vhdl_spec.specs.Dependencies.{missing_of, names_unit}
-use Rattle.vhdl_refs.specs.Mentions.{named_ref}
+use Rattle.vhdl_outline.specs.UnresolvedRefs.{named_ref}
 use Rattle.vhdl_graph.specs.Indexes.{GivesOrFaults}
 use Rattle.vhdl_graph.specs.Rows.{HasAdded, stands_at}
 use Rattle.vhdl_graph.proofs.InsideLemmas.{linked_outside}

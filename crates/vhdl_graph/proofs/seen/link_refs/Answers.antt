@@ -8,8 +8,8 @@ use Rattle.base.specs.declared.refs.Ref.{Ref}
 use Rattle.vhdl_spec.specs.Dependencies.{first_some, missing_of}
 use Rattle.base.specs.declared.lexical.Token.{Token}
 use Rattle.base.specs.declared.lexical.TokenKind.TheVariants.{Word}
-use Rattle.vhdl_refs.specs.declared.mentions.NamedRef.{NamedRef}
-use Rattle.vhdl_refs.specs.Mentions.{named_ref}
+use Rattle.vhdl_outline.specs.declared.unresolved.NamedRef.{NamedRef}
+use Rattle.vhdl_outline.specs.UnresolvedRefs.{named_ref}
 use Rattle.vhdl_graph.specs.Indexes.{IsFaultOf}
 use Rattle.vhdl_graph.specs.Linking.{LinksRefs}
 use Rattle.vhdl_graph.proofs.IndexLemmas.{mapped_more}
@@ -51,4 +51,4 @@ pub returns : goal.returns
 returns c units unit known stands =
     let made : NamedRef → Ref = named_ref c.args.text.now in
     let all : take c.loop-named.named-index c.args.refs.now ≡ c.args.refs.now = take_all c.loop-named.named-index c.args.refs.now (omega (arith, c.loop-named-test.false)) in
-    subst (λ (places : List NamedRef). LinksRefs {T = ⊤} c.args.project.now units unit (map made places) c.args.row.now c.loop-named.row (Ok tt)) all (c.loop-named.invariant.linked units unit known stands)
+    subst (λ (indices : List NamedRef). LinksRefs {T = ⊤} c.args.project.now units unit (map made indices) c.args.row.now c.loop-named.row (Ok tt)) all (c.loop-named.invariant.linked units unit known stands)

@@ -2,7 +2,7 @@
 use Rattle.std.proofs.Common.{Ok, List, map, take}
 use Rattle.std.specs.Prelude.{⊤}
 use Rattle.vhdl_spec.specs.Dependencies.{LinkUnit}
-use Rattle.vhdl_refs.specs.Mentions.{named_ref}
+use Rattle.vhdl_outline.specs.UnresolvedRefs.{named_ref}
 use Rattle.vhdl_graph.specs.Linking.{IsLooked, Knows, LinksRefs, Stands}
 use Rattle.vhdl_graph.proofs.seen.link_refs.Given as goal
 

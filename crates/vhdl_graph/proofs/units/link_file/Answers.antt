@@ -13,10 +13,10 @@ use Rattle.vhdl_spec.specs.Dependencies.{LinkUnit, link_unit, warnings_of}
 use Rattle.vhdl_spec.specs.References.{named_refs, refs_of}
 use Rattle.base.specs.declared.lexical.Token.{Token}
 use Rattle.base.specs.declared.refs.Ref.{Ref}
-use Rattle.vhdl_lex.specs.Pieces.{LiesIn}
+use Rattle.vhdl_lex.specs.LexicalElements.{LiesIn}
 use Rattle.vhdl_units.specs.Names.{token_name}
-use Rattle.vhdl_refs.specs.declared.mentions.Mentions.{Mentions}
-use Rattle.vhdl_refs.specs.Mentions.{AreMentionsOf, MentionsLieIn, named_ref, structural_of}
+use Rattle.vhdl_outline.specs.declared.unresolved.UnresolvedRefs.{UnresolvedRefs}
+use Rattle.vhdl_outline.specs.UnresolvedRefs.{AreUnresolvedRefsOf, UnresolvedRefsLieIn, named_ref, structural_of}
 use Rattle.vhdl_scope.proofs.KeyLemmas.{part_more}
 use Rattle.vhdl_graph.specs.Linking.{FileGives, Stands, unit_lacks, noted, refers_from}
 use Rattle.vhdl_graph.proofs.LinkLemmas.{added_more, first_here, first_more}
@@ -26,19 +26,19 @@ use Rattle.vhdl_graph.proofs.units.link_file.Goals as goal
 pub overflow_cast-id : goal.overflow_cast-id
 overflow_cast-id c = omega (arith, c.requires.small, c.requires.lies.few)
 
-lies : (text : List ℕ) (all : List Mentions) (number : ℕ) (one : Mentions) → All (MentionsLieIn text) all → slice_get all number ≡ Some one → MentionsLieIn text one
-lies text all number one lie got = subst (MentionsLieIn text) (get_or_from_slice_get all number one one got) (lie number one (slice_get_within all number one got))
+lies : (text : List ℕ) (all : List UnresolvedRefs) (number : ℕ) (one : UnresolvedRefs) → All (UnresolvedRefsLieIn text) all → slice_get all number ≡ Some one → UnresolvedRefsLieIn text one
+lies text all number one lie got = subst (UnresolvedRefsLieIn text) (get_or_from_slice_get all number one one got) (lie number one (slice_get_within all number one got))
 
 pub link_unit-requires-clause-lie : goal.link_unit-requires-clause-lie
-link_unit-requires-clause-lie c = lies c.args.text.now c.args.outline.now.mentions c.loop-number.number c.get-mentions.result.now c.requires.lies.mentions c.get-mentions.ensures
+link_unit-requires-clause-lie c = lies c.args.text.now c.args.outline.now.unresolved c.loop-number.number c.get-unresolved.result.now c.requires.lies.unresolved c.get-unresolved.ensures
 
 pub note_uses-requires-clause-lie : goal.note_uses-requires-clause-lie
 note_uses-requires-clause-lie c =
-    let lie = lies c.args.text.now c.args.outline.now.mentions c.loop-number.number c.get-mentions.result.now c.requires.lies.mentions c.get-mentions.ensures in
+    let lie = lies c.args.text.now c.args.outline.now.unresolved c.loop-number.number c.get-unresolved.result.now c.requires.lies.unresolved c.get-unresolved.ensures in
     subst (λ (whole : List Token). All (LiesIn c.args.text.now) whole) (sym c.as_slice-whole.ensures) lie.whole
 
 -- the references of a unit by what it mentions
-refs_are : (text : List ℕ) (tokens : List Token) (design : DesignUnit) (one : Mentions) → AreMentionsOf text tokens design one → refs_of text tokens design ≡ structural_of one.configured design design.kind ++ map (named_ref text) one.refs
+refs_are : (text : List ℕ) (tokens : List Token) (design : DesignUnit) (one : UnresolvedRefs) → AreUnresolvedRefsOf text tokens design one → refs_of text tokens design ≡ structural_of one.configured design design.kind ++ map (named_ref text) one.refs
 refs_are text tokens design one are =
     ap (λ (refs : List Ref). refs ++ named_refs text tokens design) (sym are.structural)
     ∙ ap (λ (refs : List Ref). structural_of one.configured design design.kind ++ refs) (sym are.refs)
@@ -56,7 +56,7 @@ returns-in_err-link_unit c units named scan outlined known got_file stand =
     let same : named ≡ c.get.result.now = some_same named c.get.result.now (sym got_file ∙ c.get.ensures) in
     let id : UnitId = record { file = c.args.file; unit = number } in
     let stands : Stands units c.args.tables.now id c.get.result.now.name (made design) = subst (λ (f : ProjectFile). Stands units c.args.tables.now id f.name (made design)) same (stand number design got) in
-    let refs = refs_are c.args.text.now scan.tokens.list design c.get-mentions.result.now (outlined.mentions.are number design c.get-mentions.result.now got c.get-mentions.ensures) in
+    let refs = refs_are c.args.text.now scan.tokens.list design c.get-unresolved.result.now (outlined.unresolved.are number design c.get-unresolved.result.now got c.get-unresolved.ensures) in
     let so_far = c.loop-number.invariant units named scan outlined known got_file stand in
     rw (p.1, p.2) (first_here (λ (d : DesignUnit). unit_lacks c.args.project.now units (made d)) designs number design c.in_err-link_unit.field-0.0 within here (so_far.0) (c.in_err-link_unit.ensures units (made design) known stands refs))
 
@@ -66,7 +66,7 @@ loop-number-preserved c units named scan outlined known got_file stand =
     let number : ℕ = c.loop-number.number in
     let designs : List DesignUnit = scan.units in
     let design : DesignUnit = c.get-design.result.now in
-    let one : Mentions = c.get-mentions.result.now in
+    let one : UnresolvedRefs = c.get-unresolved.result.now in
     let got : slice_get designs number ≡ Some design = ap (λ (some : List DesignUnit). slice_get some number) (sym outlined.units) ∙ c.get-design.ensures in
     let within : number < length designs = slice_get_within designs number design got in
     let made : DesignUnit → LinkUnit = link_unit c.args.file named text scan in
@@ -74,7 +74,7 @@ loop-number-preserved c units named scan outlined known got_file stand =
     let same : named ≡ c.get.result.now = some_same named c.get.result.now (sym got_file ∙ c.get.ensures) in
     let id : UnitId = record { file = c.args.file; unit = number } in
     let stands : Stands units c.args.tables.now id c.get.result.now.name (made design) = subst (λ (f : ProjectFile). Stands units c.args.tables.now id f.name (made design)) same (stand number design got) in
-    let are = outlined.mentions.are number design one got c.get-mentions.ensures in
+    let are = outlined.unresolved.are number design one got c.get-unresolved.ensures in
     let so_far = c.loop-number.invariant units named scan outlined known got_file stand in
     let gave = c.in_ok-link_unit.ensures units (made design) known stands (refs_are text scan.tokens.list design one are) in
     let note : List ℕ → List Warning = noted c.args.tables.now id c.get.result.now.name.library in

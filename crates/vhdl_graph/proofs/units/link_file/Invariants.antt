@@ -4,7 +4,7 @@ use Rattle.std.specs.Prelude.{⊤, slice_get}
 use Rattle.base.specs.declared.design.Scan.{Scan}
 use Rattle.base.specs.declared.project.ProjectFile.{ProjectFile}
 use Rattle.vhdl_spec.specs.Dependencies.{LinkUnit, link_unit}
-use Rattle.vhdl_outlines.specs.Outlines.{IsOutlineOf}
+use Rattle.vhdl_outline.specs.Outlines.{IsOutlineOf}
 use Rattle.vhdl_graph.specs.Linking.{FileGives, Knows, StandAll}
 use Rattle.vhdl_graph.proofs.units.link_file.Given as goal
 

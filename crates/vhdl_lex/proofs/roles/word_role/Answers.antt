@@ -3,7 +3,7 @@ use Rattle.std.proofs.Common.{◌≡◌, ◌≢◌, ◌-◌, ℕ, List, zero, su
 use Rattle.vhdl_spec.specs.Words.{lower_case}
 use Rattle.vhdl_spec.specs.Units.{word_role}
 use Rattle.base.specs.declared.design.Role.TheVariants.{Library}
-use Rattle.vhdl_lex.specs.Places.{IsNumberOf}
+use Rattle.vhdl_lex.specs.Buckets.{IsNumberOf}
 use Rattle.vhdl_lex.specs.declared.roles.TheConstants.{ROLES}
 use Rattle.vhdl_lex.proofs.WordRoles.{role_of_number, role_of_other}
 use Rattle.vhdl_lex.proofs.roles.word_role.Goals as goal

@@ -1,11 +1,11 @@
--- A gap, and then each piece that is found, is read.
+-- A gap, and then each lexical element that is found, is read.
 use Rattle.std.proofs.Common.{List, sym, ◌∙◌, ap, subst, arith}
 use Rattle.base.specs.declared.lexical.Token.{Token}
 use Rattle.base.specs.declared.lexical.Span.{Span}
 use Rattle.vhdl_spec.specs.Tokens.{line_comment, token}
 use Rattle.vhdl_spec.specs.Units.{roles_of}
-use Rattle.vhdl_lex.specs.declared.piece.Found.TheVariants.{Unclosed}
-use Rattle.vhdl_lex.specs.Pieces.{IsFound, IsPieceEnd, Skips, last_of}
+use Rattle.vhdl_lex.specs.declared.lexical_element.Found.TheVariants.{Unclosed}
+use Rattle.vhdl_lex.specs.LexicalElements.{IsFound, IsLexicalElementEnd, Skips, last_of}
 use Rattle.vhdl_lex.specs.Reading.{Read}
 use Rattle.vhdl_lex.proofs.Steps.{roles_more, read_blanks, read_gap, read_comment, read_token, read_fault}
 use Rattle.vhdl_lex.proofs.scan.cut_on.Goals as goal
@@ -27,7 +27,7 @@ pub loop-at-preserved-in_ok-push-in-Comment : goal.loop-at-preserved-in_ok-push-
 loop-at-preserved-in_ok-push-in-Comment c = record {
   ordered = omega (arith, c.loop-at.invariant.ordered, c.gap_end_by-at.ensures.reaches, c.in-Comment.ensures.longest.some);
   read = subst (λ (comments : List Span). Read c.args.text.now c.loop-at.list.items comments c.in-Comment.end) (sym c.in_ok-push-in-Comment.ensures.items)
-      (read_comment c.args.text.now c.loop-at.list.items c.loop-at.comments.items c.gap_end_by-at.result (read_blanks c.args.text.now c.loop-at.list.items c.loop-at.comments.items c.loop-at.at c.gap_end_by-at.result c.loop-at.invariant.read c.gap_end_by-at.ensures) c.in-Comment.end (subst (λ (list : List Token). IsPieceEnd line_comment c.args.text.now (last_of list) c.gap_end_by-at.result c.in-Comment.end) c.as_slice.ensures.value c.in-Comment.ensures));
+      (read_comment c.args.text.now c.loop-at.list.items c.loop-at.comments.items c.gap_end_by-at.result (read_blanks c.args.text.now c.loop-at.list.items c.loop-at.comments.items c.loop-at.at c.gap_end_by-at.result c.loop-at.invariant.read c.gap_end_by-at.ensures) c.in-Comment.end (subst (λ (list : List Token). IsLexicalElementEnd line_comment c.args.text.now (last_of list) c.gap_end_by-at.result c.in-Comment.end) c.as_slice.ensures.value c.in-Comment.ensures));
   roles = c.loop-at.invariant.roles;
 }
 
@@ -40,6 +40,6 @@ loop-at-preserved c =
     record {
       ordered = omega (arith, c.loop-at.invariant.ordered, c.gap_end_by-at.ensures.reaches, c.in-Lexeme.ensures.longest.some);
       read = subst (λ (list : List Token). Read c.args.text.now list c.loop-at.comments.items c.in-Lexeme.end) (sym c.in_ok-push-in-Lexeme.ensures.items)
-          (read_token c.args.text.now c.loop-at.list.items c.loop-at.comments.items c.gap_end_by-at.result (read_blanks c.args.text.now c.loop-at.list.items c.loop-at.comments.items c.loop-at.at c.gap_end_by-at.result c.loop-at.invariant.read c.gap_end_by-at.ensures) c.in-Lexeme.kind c.in-Lexeme.end (subst (λ (list : List Token). IsPieceEnd (token c.in-Lexeme.kind) c.args.text.now (last_of list) c.gap_end_by-at.result c.in-Lexeme.end) c.as_slice.ensures.value c.in-Lexeme.ensures));
+          (read_token c.args.text.now c.loop-at.list.items c.loop-at.comments.items c.gap_end_by-at.result (read_blanks c.args.text.now c.loop-at.list.items c.loop-at.comments.items c.loop-at.at c.gap_end_by-at.result c.loop-at.invariant.read c.gap_end_by-at.ensures) c.in-Lexeme.kind c.in-Lexeme.end (subst (λ (list : List Token). IsLexicalElementEnd (token c.in-Lexeme.kind) c.args.text.now (last_of list) c.gap_end_by-at.result c.in-Lexeme.end) c.as_slice.ensures.value c.in-Lexeme.ensures));
       roles = c.in_ok-push_role-in-Lexeme.ensures ∙ roles_more c.args.text.now c.loop-at.list.items here c.loop-at.roles.items c.loop-at.invariant.roles ∙ sym (ap (roles_of c.args.text.now) c.in_ok-push-in-Lexeme.ensures.items);
     }

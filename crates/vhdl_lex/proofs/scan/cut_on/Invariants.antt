@@ -1,4 +1,4 @@
--- The pieces that were read so far.
+-- The lexical elements that were read so far.
 use Rattle.std.proofs.Common.{◌≡◌, length, ◌-◌, ◌≤◌}
 use Rattle.vhdl_spec.specs.Units.{roles_of}
 use Rattle.vhdl_lex.specs.Reading.{Read}

@@ -1,4 +1,4 @@
--- The row has the gate, and takes the row of the source.
+-- The row has the library number, and takes the row of the source.
 use Rattle.std.proofs.Common.{◌||◌, ◌∙◌, [], sym, ap}
 use Rattle.std.proofs.lemmas.List.{get_or_default}
 use Rattle.vhdl_scope.specs.Bits.{row_has}

@@ -1,6 +1,6 @@
 -- Those of one unit more are there.
 use Rattle.std.proofs.Common.{◌<◌, ◌∙◌, ℕ, List, [], length, arith, ap, subst}
-use Rattle.vhdl_outlines.specs.declared.outlines.UnitScope.{UnitScope}
+use Rattle.vhdl_outline.specs.declared.outlines.UnitScope.{UnitScope}
 use Rattle.vhdl_scope.specs.Names.{HasAll, keys_of}
 use Rattle.vhdl_scope.proofs.KeyLemmas.{all_more}
 use Rattle.vhdl_scope.proofs.names.add_units.Goals as goal

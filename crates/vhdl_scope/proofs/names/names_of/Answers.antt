@@ -2,8 +2,8 @@
 use Rattle.std.proofs.Common.{◌≡◌, ◌<◌, ◌∙◌, ◌++◌, ℕ, List, [], length, arith, ap, subst, sym, take}
 use Rattle.std.specs.List.{flat_map}
 use Rattle.std.proofs.lemmas.List.{take_all}
-use Rattle.vhdl_outlines.specs.declared.outlines.FileOutline.{FileOutline}
-use Rattle.vhdl_outlines.specs.declared.outlines.UnitScope.{UnitScope}
+use Rattle.vhdl_outline.specs.declared.outlines.FileOutline.{FileOutline}
+use Rattle.vhdl_outline.specs.declared.outlines.UnitScope.{UnitScope}
 use Rattle.vhdl_scope.specs.Names.{HasAll, implicit, keys_of}
 use Rattle.vhdl_scope.proofs.KeyLemmas.{all_more, parts_of_parts}
 use Rattle.vhdl_scope.proofs.names.names_of.Goals as goal

@@ -1,4 +1,4 @@
--- All steps and places are below the number of places.
+-- All steps and indices are below the number of indices.
 use Rattle.std.proofs.Common.{◌≡◌, ◌<◌, length}
 use Rattle.std.specs.List.{All}
 use Rattle.vhdl_scope.specs.Order.{AreStepsBelow}
@@ -6,7 +6,7 @@ use Rattle.vhdl_scope.proofs.order.order_of.Given as goal
 
 abbrev pub invariant-loop-at : goal.invariant-loop-at
 invariant-loop-at l = record {
-  each : length l.marks.items ≡ length l.links;
+  each : length l.flags.items ≡ length l.links;
   steps : AreStepsBelow (length l.links) l.steps.items;
   order : All (λ at. at < length l.links) l.order.items;
 }

@@ -1,4 +1,4 @@
--- All steps and places are below the number of places.
+-- All steps and indices are below the number of indices.
 use Rattle.std.proofs.Common.{◌≡◌, ◌<◌, length}
 use Rattle.std.specs.List.{All}
 use Rattle.vhdl_scope.specs.Order.{AreStepsBelow}
@@ -6,7 +6,7 @@ use Rattle.vhdl_scope.proofs.order.walk_out.Given as goal
 
 abbrev pub invariant-loop : goal.invariant-loop
 invariant-loop l = record {
-  each : length l.marks ≡ length l.initial.marks;
+  each : length l.flags ≡ length l.initial.flags;
   steps : AreStepsBelow (length l.links) l.steps.items;
   order : All (λ at. at < length l.links) l.order.items;
 }

@@ -1,6 +1,6 @@
 -- One unit more.
 use Rattle.std.proofs.Common.{◌≡◌, ◌<◌, ◌∙◌, ◌++◌, ℕ, List, ap, length, arith, subst, sym}
-use Rattle.vhdl_outlines.specs.declared.outlines.UnitScope.{UnitScope}
+use Rattle.vhdl_outline.specs.declared.outlines.UnitScope.{UnitScope}
 use Rattle.vhdl_scope.specs.Names.{implicit, keys_of}
 use Rattle.vhdl_scope.specs.Graph.{AreNamed, IsRowOf}
 use Rattle.vhdl_scope.proofs.OwnLemmas.{zip_more}

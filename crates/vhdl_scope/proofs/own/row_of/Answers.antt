@@ -10,5 +10,5 @@ load-requires c = c.requires.first.even
 
 pub returns-clause-row : goal.returns-clause-row
 returns-clause-row c =
-    subst (λ (row : List ℕ). IsRowOf (keys_of c.args.names.now) (length c.args.room.now) row (implicit ++ c.args.more.now)) (sym c.in_ok-kept.ensures)
+    subst (λ (row : List ℕ). IsRowOf (keys_of c.args.names.now) (length c.args.room.now) row (implicit ++ c.args.more.now)) (sym c.in_ok-to_row.ensures)
     (row_more (keys_of c.args.names.now) implicit c.args.more.now (length c.args.room.now) c.args.first.now c.put_all.new.row c.requires.first (subst (λ (row : List ℕ). HasPut (keys_of c.args.names.now) c.args.more.now row c.put_all.new.row) c.load.ensures c.put_all.ensures))

@@ -1,9 +1,9 @@
 -- The units of one file more, and one group more.
 use Rattle.std.proofs.Common.{◌≡◌, ◌<◌, ◌∙◌, ◌++◌, ℕ, List, [], ap, length, map, arith, subst, sym, take}
 use Rattle.std.specs.List.{All, AllZip}
-use Rattle.vhdl_outlines.specs.declared.outlines.FileOutline.{FileOutline}
-use Rattle.vhdl_outlines.specs.declared.outlines.UnitScope.{UnitScope}
-use Rattle.vhdl_outlines.specs.Outlines.{file_scopes}
+use Rattle.vhdl_outline.specs.declared.outlines.FileOutline.{FileOutline}
+use Rattle.vhdl_outline.specs.declared.outlines.UnitScope.{UnitScope}
+use Rattle.vhdl_outline.specs.Outlines.{file_scopes}
 use Rattle.vhdl_scope.specs.Names.{implicit, keys_of}
 use Rattle.vhdl_scope.specs.Graph.{AreNamed, IsRowOf}
 use Rattle.vhdl_scope.proofs.OwnLemmas.{zip_again, zip_part}

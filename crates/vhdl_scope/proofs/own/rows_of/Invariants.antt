@@ -1,7 +1,7 @@
 -- First the units of the files up to the index have rows, and then so many groups.
 use Rattle.std.proofs.Common.{◌≡◌, [], ◌++◌, length, map, replicate, take}
 use Rattle.std.specs.List.{AllZip}
-use Rattle.vhdl_outlines.specs.Outlines.{file_scopes}
+use Rattle.vhdl_outline.specs.Outlines.{file_scopes}
 use Rattle.vhdl_scope.specs.Names.{implicit, keys_of}
 use Rattle.vhdl_scope.specs.Graph.{IsRowOf}
 use Rattle.vhdl_scope.proofs.own.rows_of.Given as goal

@@ -9,8 +9,8 @@ pub loop-at-init : goal.loop-at-init
 loop-at-init c = record {
   within = omega arith;
   merged = subst (λ (some : List Run). AreMergedTo 0 c.args.first.now c.args.second.now some false) (sym c.requires) (merged_none c.args.first.now c.args.second.now);
-  first = λ place from. refl;
-  second = λ place from. refl;
+  first = λ row_index from. refl;
+  second = λ row_index from. refl;
 }
 
 pub loop-at-preserved : goal.loop-at-preserved
@@ -29,6 +29,6 @@ loop-at-preserved c =
       within = omega (arith, c.nearer-end.ensures.one, c.stand_at-own.ensures.within);
       merged = subst (λ (word : ℕ). AreMergedTo end c.args.first.now c.args.second.now c.push_run.new.runs.items (c.loop-at.grown || not (nat_eq word own))) (sym is)
           (merged_more c.args.first.now c.args.second.now start end own other longer one two c.loop-at.merged.items c.push_run.new.runs.items c.loop-at.grown c.loop-at.invariant.merged runs fits);
-      first = λ place from. c.stand_at-own.ensures.passed place (omega (arith, longer, from));
-      second = λ place from. c.stand_at-other.ensures.passed place (omega (arith, longer, from));
+      first = λ row_index from. c.stand_at-own.ensures.passed row_index (omega (arith, longer, from));
+      second = λ row_index from. c.stand_at-other.ensures.passed row_index (omega (arith, longer, from));
     }

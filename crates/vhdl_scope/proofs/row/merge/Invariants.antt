@@ -1,4 +1,4 @@
--- So far the words before the place are merged.
+-- So far the words before the index are merged.
 use Rattle.std.proofs.Common.{◌≤◌, ◌-◌, drop}
 use Rattle.vhdl_scope.specs.Rows.{AreMergedTo, ArePassed}
 use Rattle.vhdl_scope.proofs.row.merge.Given as goal

@@ -1,4 +1,4 @@
--- So far the words before the place are those of the runs.
+-- So far the words before the index are those of the runs.
 use Rattle.std.proofs.Common.{◌≡◌, ◌<◌, ℕ, get_or, length}
 use Rattle.vhdl_scope.specs.Rows.{word_or}
 use Rattle.vhdl_scope.proofs.row.put_runs.Given as goal

@@ -1,4 +1,4 @@
--- So far the words before the place are told.
+-- So far the words before the index are told.
 use Rattle.std.proofs.Common.{get_or}
 use Rattle.vhdl_scope.specs.Rows.{AreRunsTo}
 use Rattle.vhdl_scope.proofs.row.runs_in.Given as goal

@@ -1,4 +1,4 @@
--- So far the runs end at the place or before it.
+-- So far the runs end at the index or before it.
 use Rattle.std.proofs.Common.{drop}
 use Rattle.vhdl_scope.specs.Rows.{ArePassed}
 use Rattle.vhdl_scope.proofs.row.stand_at.Given as goal

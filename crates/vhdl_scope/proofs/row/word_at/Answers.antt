@@ -1,4 +1,4 @@
--- The first run that ends past the place tells its word.
+-- The first run that ends past the index tells its word.
 use Rattle.std.proofs.Common.{arith}
 use Rattle.vhdl_scope.proofs.RowLemmas.{word_found, word_none, word_onward}
 use Rattle.vhdl_scope.proofs.row.word_at.Goals as goal

@@ -1,4 +1,4 @@
--- So far no run ends past the place.
+-- So far no run ends past the index.
 use Rattle.std.proofs.Common.{◌≡◌, drop}
 use Rattle.vhdl_scope.specs.Rows.{word_or}
 use Rattle.vhdl_scope.proofs.row.word_at.Given as goal

@@ -2,10 +2,10 @@
 use Rattle.std.proofs.Common.{◌∙◌, List, ap, sym, subst, take, arith}
 use Rattle.base.specs.declared.design.Unit.{Unit as DesignUnit}
 use Rattle.std.specs.List.{list_any}
-use Rattle.vhdl_outlines.specs.declared.outlines.FileOutline.{FileOutline}
+use Rattle.vhdl_outline.specs.declared.outlines.FileOutline.{FileOutline}
 use Rattle.vhdl_spec.specs.References.{is_configuration}
 use Rattle.vhdl_spec.specs.Visibility.{ScopeUnit, scope_units}
-use Rattle.vhdl_outlines.proofs.OutlineLemmas.{got_file}
+use Rattle.vhdl_outline.proofs.OutlineLemmas.{got_file}
 use Rattle.vhdl_scope.specs.Scopes.{AreGrouped, units_before}
 use Rattle.vhdl_scope.specs.Owned.{AddsOwned, IsOwnedBy}
 use Rattle.vhdl_scope.proofs.OwnedLemmas.{enough_more, file_none, grouped_more}

@@ -1,7 +1,7 @@
 -- So far the units of the files up to the position.
 use Rattle.std.proofs.Common.{◌≡◌, ℕ, List, length}
 use Rattle.base.specs.declared.design.Scan.{Scan}
-use Rattle.vhdl_outlines.specs.Outlines.{FilesAreOf}
+use Rattle.vhdl_outline.specs.Outlines.{FilesAreOf}
 use Rattle.vhdl_scope.proofs.ScopeLemmas.{AreFirst}
 use Rattle.vhdl_scope.proofs.scope.scopes_of.Given as goal
 

@@ -1,4 +1,4 @@
--- There is nothing to take, or the place is looked at.
+-- There is nothing to take, or the index is looked at.
 use Rattle.std.proofs.Common.{◌∙◌, [], sym}
 use Rattle.std.proofs.lemmas.List.{get_or_default}
 use Rattle.vhdl_scope.proofs.SpreadLemmas.{nothing_more}

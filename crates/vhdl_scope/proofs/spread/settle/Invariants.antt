@@ -1,4 +1,4 @@
--- Each place takes what its links hand on, or is on the list.
+-- Each index takes what its links hand on, or is on the list.
 use Rattle.std.proofs.Common.{◌≡◌, length}
 use Rattle.vhdl_scope.specs.Work.{IsSettling, effort}
 use Rattle.vhdl_scope.proofs.spread.settle.Given as goal
@@ -6,7 +6,7 @@ use Rattle.vhdl_scope.proofs.spread.settle.Given as goal
 abbrev pub invariant-loop-at : goal.invariant-loop-at
 invariant-loop-at l = record {
   room : length l.room ≡ length l.initial.room;
-  settling : IsSettling l.links l.initial.rows l.rows l.work.items l.marks;
+  settling : IsSettling l.links l.initial.rows l.rows l.work.items l.flags;
 }
 
 abbrev pub decreases-loop-at : goal.decreases-loop-at

@@ -1,4 +1,4 @@
--- The list of all places settles the sets.
+-- The list of all indices settles the sets.
 use Rattle.std.proofs.Common.{◌∙◌, ℕ, sym, subst, List}
 use Rattle.vhdl_scope.specs.Work.{KnowReaders}
 use Rattle.vhdl_scope.proofs.SpreadLemmas.{settling_first}
@@ -10,4 +10,4 @@ settle-requires-clause-known c = subst (λ (readers : List (List ℕ)). KnowRead
 pub settle-requires-clause-settling : goal.settle-requires-clause-settling
 settle-requires-clause-settling c =
     settling_first c.args.links.now c.args.rows.now c.in_ok-work.work.items c.as_mut_slice.result.now
-    c.in_ok-work.ensures.each c.in_ok-work.ensures.is (c.as_mut_slice.ensures.value ∙ c.in_ok-marks.ensures.items_if_clones_equal (λ y same. same))
+    c.in_ok-work.ensures.each c.in_ok-work.ensures.is (c.as_mut_slice.ensures.value ∙ c.in_ok-flags.ensures.items_if_clones_equal (λ y same. same))

@@ -1,4 +1,4 @@
--- So far the sets are spread; where none has grown, those before the place take what their links hand on.
+-- So far the sets are spread; where none has grown, those before the index take what their links hand on.
 use Rattle.std.proofs.Common.{◌≡◌, false, length}
 use Rattle.vhdl_scope.specs.Bits.{has}
 use Rattle.vhdl_scope.specs.Links.{AreTakenTo, HasSpread}

@@ -4,11 +4,11 @@ use Rattle.std.specs.List.{AllZip, flat_map}
 use Rattle.base.specs.declared.design.Scan.{Scan}
 use Rattle.vhdl_spec.specs.Visibility.{ScopeUnit, scope_units}
 use Rattle.vhdl_scope.specs.declared.links.Link.{Link}
-use Rattle.vhdl_outlines.specs.declared.outlines.FileOutline.{FileOutline}
-use Rattle.vhdl_outlines.specs.declared.outlines.UnitScope.{UnitScope}
+use Rattle.vhdl_outline.specs.declared.outlines.FileOutline.{FileOutline}
+use Rattle.vhdl_outline.specs.declared.outlines.UnitScope.{UnitScope}
 use Rattle.vhdl_scope.specs.Bits.{has}
 use Rattle.vhdl_scope.specs.Links.{AreBelow, AreEven, AreTaken, HasSpread}
-use Rattle.vhdl_outlines.specs.Outlines.{AreOutlinesOf, file_scopes}
+use Rattle.vhdl_outline.specs.Outlines.{AreOutlinesOf, file_scopes}
 use Rattle.vhdl_scope.specs.Names.{HasAll, implicit, keys_of, number_of}
 use Rattle.vhdl_scope.specs.Graph.{IsRowOf}
 use Rattle.vhdl_scope.specs.Joins.{AreMembers, IsLinkedFor}
@@ -59,17 +59,17 @@ links_are c = c.as_slice-2.ensures.value ∙ c.in_ok-append.ensures.items
 
 pub spread-requires-clause-each : goal.spread-requires-clause-each
 spread-requires-clause-each c =
-    ap length (links_are c) ∙ (ready_each (units c) (keys_of c.args.names.now) c.args.groups.now (c.len-2.result / 64 + 1) c.in_ok-rows.rows.items c.in_ok-links.links.items c.in_ok-members.members.items c.in-Some.gate (rows_are c) (users c) (count c) (linked c) (c.in_ok-members.ensures (grouped c).keeps _ (grouped c).grouped.each) ∙ ap length (sym c.as_mut_slice.ensures.value))
+    ap length (links_are c) ∙ (ready_each (units c) (keys_of c.args.names.now) c.args.groups.now (c.len-2.result / 64 + 1) c.in_ok-rows.rows.items c.in_ok-links.links.items c.in_ok-members.members.items c.in-Some.library_number (rows_are c) (users c) (count c) (linked c) (c.in_ok-members.ensures (grouped c).keeps _ (grouped c).grouped.each) ∙ ap length (sym c.as_mut_slice.ensures.value))
 
 pub spread-requires-clause-even : goal.spread-requires-clause-even
 spread-requires-clause-even c =
-    subst (AreEven (c.len-2.result / 64 + 1)) (sym c.as_mut_slice.ensures.value) (ready_even (units c) (keys_of c.args.names.now) c.args.groups.now (c.len-2.result / 64 + 1) c.in_ok-rows.rows.items c.in_ok-links.links.items c.in_ok-members.members.items c.in-Some.gate (rows_are c) (users c) (count c) (linked c) (c.in_ok-members.ensures (grouped c).keeps _ (grouped c).grouped.each))
+    subst (AreEven (c.len-2.result / 64 + 1)) (sym c.as_mut_slice.ensures.value) (ready_even (units c) (keys_of c.args.names.now) c.args.groups.now (c.len-2.result / 64 + 1) c.in_ok-rows.rows.items c.in_ok-links.links.items c.in_ok-members.members.items c.in-Some.library_number (rows_are c) (users c) (count c) (linked c) (c.in_ok-members.ensures (grouped c).keeps _ (grouped c).grouped.each))
 
 pub spread-requires-clause-below : goal.spread-requires-clause-below
 spread-requires-clause-below c =
     subst (λ (rows : List (List ℕ)). AreBelow (length rows) c.as_slice-2.result.now) (sym c.as_mut_slice.ensures.value)
     (subst (λ (links : List (List Link)). AreBelow (length c.in_ok-rows.rows.items) links) (sym (links_are c))
-    (ready_below (units c) (keys_of c.args.names.now) c.args.groups.now (c.len-2.result / 64 + 1) c.in_ok-rows.rows.items c.in_ok-links.links.items c.in_ok-members.members.items c.in-Some.gate (rows_are c) (users c) (count c) (linked c) (c.in_ok-members.ensures (grouped c).keeps _ (grouped c).grouped.each)))
+    (ready_below (units c) (keys_of c.args.names.now) c.args.groups.now (c.len-2.result / 64 + 1) c.in_ok-rows.rows.items c.in_ok-links.links.items c.in_ok-members.members.items c.in-Some.library_number (rows_are c) (users c) (count c) (linked c) (c.in_ok-members.ensures (grouped c).keeps _ (grouped c).grouped.each)))
 
 pub returns : goal.returns
 returns c scans are =
@@ -90,7 +90,7 @@ returns c scans are =
       rows_are = rows_for (keys_of c.args.names.now) (c.len-2.result / 64 + 1) c.in_ok-rows.rows.items _ _ _ _ c.as_slice-files.ensures c.len-3.ensures.len c.in_ok-rows.ensures;
       links_are = linked_each (c.requires.grouped scans are).keeps c.args.project.now.files c.args.texts.now scans c.args.outlines.now.files (keys_of c.args.names.now) c.args.groups.now c.args.owned.now c.in_ok-links.links.items
           c.requires.each are.files (c.requires.grouped scans are).grouped.each (c.in_ok-links.ensures scans are.files);
-      members_are = subst (λ (gate : ℕ). AreMembers (c.requires.grouped scans are).keeps c.args.groups.now users gate c.in_ok-members.members.items) (c.in-Some.ensures.found.0 ∙ ap (number_of (keys_of c.args.names.now)) c.as_slice.ensures) (c.in_ok-members.ensures (c.requires.grouped scans are).keeps _ (c.requires.grouped scans are).grouped.each);
+      members_are = subst (λ (library_number : ℕ). AreMembers (c.requires.grouped scans are).keeps c.args.groups.now users library_number c.in_ok-members.members.items) (c.in-Some.ensures.found.0 ∙ ap (number_of (keys_of c.args.names.now)) c.as_slice.ensures) (c.in_ok-members.ensures (c.requires.grouped scans are).keeps _ (c.requires.grouped scans are).grouped.each);
       spread = subst (λ (links : List (List Link)). HasSpread links c.in_ok-rows.rows.items c.spread.new.rows) links spread;
       taken = subst (λ (links : List (List Link)). AreTaken links (has c.spread.new.rows)) links c.in_ok-spread.ensures.taken;
     })

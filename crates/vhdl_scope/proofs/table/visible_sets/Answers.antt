@@ -1,8 +1,8 @@
 -- The rows of what the units say are what they see.
 use Rattle.std.proofs.Common.{◌∙◌, List, subst, sym}
 use Rattle.vhdl_spec.specs.Visibility.{scope_units}
-use Rattle.vhdl_outlines.specs.declared.outlines.UnitScope.{UnitScope}
-use Rattle.vhdl_outlines.proofs.OutlineLemmas.{scopes_kept}
+use Rattle.vhdl_outline.specs.declared.outlines.UnitScope.{UnitScope}
+use Rattle.vhdl_outline.proofs.OutlineLemmas.{scopes_kept}
 use Rattle.vhdl_scope.specs.Names.{keys_of}
 use Rattle.vhdl_scope.specs.Exact.{AreGrown}
 use Rattle.vhdl_scope.specs.Scopes.{HasGroups}

@@ -1,4 +1,4 @@
--- So far the place is a reader of the links up to the index.
+-- So far the index is a reader of the links up to the index.
 use Rattle.std.proofs.Common.{take}
 use Rattle.vhdl_scope.specs.Work.{HaveReader}
 use Rattle.vhdl_scope.proofs.work.add_reader.Given as goal

@@ -6,5 +6,5 @@ use Rattle.vhdl_scope.proofs.work.no_readers.Given as goal
 abbrev pub invariant-loop : goal.invariant-loop
 invariant-loop l = record {
   each : length l.readers.items ≡ l.counter;
-  places : AreReaders l.places l.readers.items;
+  row_indices : AreReaders l.row_indices l.readers.items;
 }

@@ -2,24 +2,24 @@
 use Rattle.std.proofs.Common.{refl, subst}
 use Rattle.vhdl_spec.specs.Units.{roles_of}
 use Rattle.vhdl_units.specs.Standing.{IsStanding}
-use Rattle.vhdl_units.proofs.Adding.{plain_places, owned_places, item_added, plain_added, owned_added}
+use Rattle.vhdl_units.proofs.Adding.{plain_offsets, owned_offsets, item_added, plain_added, owned_added}
 use Rattle.vhdl_units.proofs.file.add_unit.Goals as goal
 
 pub plain_unit-requires-clause-named : goal.plain_unit-requires-clause-named
 plain_unit-requires-clause-named c =
-    (plain_places c.args.text.now c.args.tokens.now c.args.at c.in-Plain.kind c.in-Plain.last (subst (IsStanding (roles_of c.args.text.now c.args.tokens.now) c.args.at) c.in-Plain.is c.requires.standing)).0
+    (plain_offsets c.args.text.now c.args.tokens.now c.args.at c.in-Plain.kind c.in-Plain.last (subst (IsStanding (roles_of c.args.text.now c.args.tokens.now) c.args.at) c.in-Plain.is c.requires.standing)).0
 
 pub plain_unit-requires-clause-within : goal.plain_unit-requires-clause-within
 plain_unit-requires-clause-within c =
-    (plain_places c.args.text.now c.args.tokens.now c.args.at c.in-Plain.kind c.in-Plain.last (subst (IsStanding (roles_of c.args.text.now c.args.tokens.now) c.args.at) c.in-Plain.is c.requires.standing)).1
+    (plain_offsets c.args.text.now c.args.tokens.now c.args.at c.in-Plain.kind c.in-Plain.last (subst (IsStanding (roles_of c.args.text.now c.args.tokens.now) c.args.at) c.in-Plain.is c.requires.standing)).1
 
 pub owned_unit-requires-clause-named : goal.owned_unit-requires-clause-named
 owned_unit-requires-clause-named c =
-    (owned_places c.args.text.now c.args.tokens.now c.args.at c.in-Owned.kind c.in-Owned.before c.in-Owned.last (subst (IsStanding (roles_of c.args.text.now c.args.tokens.now) c.args.at) c.in-Owned.is c.requires.standing)).0
+    (owned_offsets c.args.text.now c.args.tokens.now c.args.at c.in-Owned.kind c.in-Owned.before c.in-Owned.last (subst (IsStanding (roles_of c.args.text.now c.args.tokens.now) c.args.at) c.in-Owned.is c.requires.standing)).0
 
 pub owned_unit-requires-clause-within : goal.owned_unit-requires-clause-within
 owned_unit-requires-clause-within c =
-    (owned_places c.args.text.now c.args.tokens.now c.args.at c.in-Owned.kind c.in-Owned.before c.in-Owned.last (subst (IsStanding (roles_of c.args.text.now c.args.tokens.now) c.args.at) c.in-Owned.is c.requires.standing)).1
+    (owned_offsets c.args.text.now c.args.tokens.now c.args.at c.in-Owned.kind c.in-Owned.before c.in-Owned.last (subst (IsStanding (roles_of c.args.text.now c.args.tokens.now) c.args.at) c.in-Owned.is c.requires.standing)).1
 
 pub returns-in-Item : goal.returns-in-Item
 returns-in-Item c =

@@ -1,6 +1,6 @@
 use Rattle.std.proofs.Common.{refl, sym, ◌∙◌}
 use Rattle.outside.specs.FaultCounts.{no_faults, with_input}
-use Rattle.child_benches.specs.Benches.{simulation}
+use Rattle.child_tools.specs.Benches.{simulation}
 use Rattle.vunit_top.proofs.ActTruths.{no_early}
 use Rattle.vunit_top.proofs.Tops.{long_is_said, no_results, taken_results, taken_said, too_long}
 use Rattle.vunit_top.proofs.children.run_as_simulator.Goals as goal

@@ -1,6 +1,6 @@
 use Rattle.std.proofs.Common.{refl, sym}
 use Rattle.run_build.specs.Orders.{order_by}
-use Rattle.vunit_top.proofs.RunTruths.{faulted_over, ended_over, marked_over}
+use Rattle.vunit_top.proofs.RunTruths.{faulted_over, ended_over, has_status_over}
 use Rattle.vunit_top.proofs.top.build_graph.Goals as goal
 
 pub returns-in-Ok-clause-ran : goal.returns-in-Ok-clause-ran
@@ -10,11 +10,11 @@ returns-in-Ok-clause-ran g c = λ scan words tells runs.
 
 pub returns-in-Ok-clause-says : goal.returns-in-Ok-clause-says
 returns-in-Ok-clause-says g c = λ tells runs puts.
-    rw (sym (marked_over _ (order_by c.args.options c.args.graph.now) _ _ _ _ _ (c.in-Ok.ensures.told tells runs))) (c.say_build.ensures.said puts)
+    rw (sym (has_status_over _ (order_by c.args.options c.args.graph.now) _ _ _ _ _ (c.in-Ok.ensures.told tells runs))) (c.say_build.ensures.said puts)
 
 pub returns-in-Ok-clause-answers : goal.returns-in-Ok-clause-answers
 returns-in-Ok-clause-answers g c = λ tells runs.
-    rw (sym (marked_over _ (order_by c.args.options c.args.graph.now) _ _ _ _ _ (c.in-Ok.ensures.told tells runs))) c.say_build.ensures.answer
+    rw (sym (has_status_over _ (order_by c.args.options c.args.graph.now) _ _ _ _ _ (c.in-Ok.ensures.told tells runs))) c.say_build.ensures.answer
 
 pub returns-in-Err-NoMemory-clause-ran : goal.returns-in-Err-NoMemory-clause-ran
 returns-in-Err-NoMemory-clause-ran g c = λ scan words tells runs.

@@ -1,5 +1,5 @@
 use Rattle.std.proofs.Common.{sym}
-use Rattle.report_run.specs.Texts.{warning_text}
+use Rattle.report.specs.Texts.{warning_text}
 use Rattle.run_build.specs.Orders.{order_by}
 use Rattle.vunit_top.specs.Reading.{Builds}
 use Rattle.run_build.proofs.OverStore.{no_test_since}

@@ -34,7 +34,7 @@ returns-clause-held g c = λ told.
     let new = moments c.open_found.new.disk in
     let at = found_form c.args.newer c.args.older in
     let same = ap reads_of (c.in_ok-headers.ensures.settled told) in
-    ok_both c.open_found.result (λ found. IsInStep (found_journal found) new.now) (λ found. found_taken g.N.Taker.taken g.O.Taker.taken found ≡ payloads (at (reads_of middle.now)) (reads_of middle.now)) (λ found. payloads (at old) (reads_of new.now) ≡ found_taken g.N.Taker.taken g.O.Taker.taken found)
+    ok_both c.open_found.result (λ found. IsInStep (found_journal found) new.now) (λ found. found_taken g.N.Visitor.taken g.O.Visitor.taken found ≡ payloads (at (reads_of middle.now)) (reads_of middle.now)) (λ found. payloads (at old) (reads_of new.now) ≡ found_taken g.N.Visitor.taken g.O.Visitor.taken found)
     (λ found in_step is. ap (λ (image : Image). payloads (at image) (reads_of new.now)) (sym same) ∙ present_found c.args.newer c.args.older middle new (c.open_found.ensures.holds told) in_step.settled ∙ sym is)
     (c.open_found.ensures.in_step told) (c.open_found.ensures.payloads told)
 
@@ -75,7 +75,7 @@ returns-clause-found g c = λ told.
 pub returns-clause-payloads : goal.returns-clause-payloads
 returns-clause-payloads g c = λ told.
     let same = ap reads_of (c.in_ok-headers.ensures.settled told) in
-    subst (λ (image : Image). IfOk c.open_found.result (λ found. found_taken g.N.Taker.taken g.O.Taker.taken found ≡ payloads (found_form c.args.newer c.args.older image) image)) same (c.open_found.ensures.payloads told)
+    subst (λ (image : Image). IfOk c.open_found.result (λ found. found_taken g.N.Visitor.taken g.O.Visitor.taken found ≡ payloads (found_form c.args.newer c.args.older image) image)) same (c.open_found.ensures.payloads told)
 
 pub returns-clause-counts : goal.returns-clause-counts
 returns-clause-counts g c = λ told.

@@ -27,7 +27,7 @@ returns-clause-held g c = λ told.
     let middle = g.D.Disk.moments c.read_headers.new.disk in
     let new = g.D.Disk.moments c.open_sides.new.disk in
     let list = payloads c.args.form (reads_of middle.now) in
-    ok_both c.open_sides.result (λ opened. IsInStep opened.journal new.now) (λ opened. g.T.Taker.taken opened.payloads ≡ list) (λ opened. payloads c.args.form (reads_of new.now) ≡ g.T.Taker.taken opened.payloads)
+    ok_both c.open_sides.result (λ opened. IsInStep opened.journal new.now) (λ opened. g.T.Visitor.taken opened.payloads ≡ list) (λ opened. payloads c.args.form (reads_of new.now) ≡ g.T.Visitor.taken opened.payloads)
     (λ opened in_step is. present_has c.args.form middle new list (c.open_sides.ensures.any_moment told) in_step.settled ∙ sym is)
     (c.open_sides.ensures.in_step told) (c.open_sides.ensures.payloads told)
 

@@ -1,0 +1,10 @@
+-- What remains to be proved of `with_bit`.
+use Rattle.std.proofs.Common.{w64}
+use Rattle.std.proofs.lemmas.Nat.Bits.{bit_at_set_same, bit_at_set_other}
+use Rattle.base_collections.proofs.words.with_bit.Goals as goal
+
+pub returns-clause-is : goal.returns-clause-is
+returns-clause-is c = bit_at_set_same w64 c.args.word c.args.k c.requires
+
+pub returns-clause-others : goal.returns-clause-others
+returns-clause-others c = bit_at_set_other w64 c.args.word c.args.k c.requires

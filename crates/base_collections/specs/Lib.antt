@@ -1,0 +1,12 @@
+-- The definitions.
+pub mod Names
+pub mod NameKeys
+pub mod Positions
+pub mod Numbers
+pub mod NameLaws
+pub mod Fingerprints
+pub mod Indexes
+pub mod Splits
+pub mod Links
+pub mod OrderedKeys
+pub mod Maps

@@ -1,6 +1,0 @@
-//! The name that was probably meant.
-#![tactic(auto)]
-
-mod nearest;
-
-pub use nearest::nearest_name;

@@ -1,3 +1,0 @@
--- The lemmas.
-pub mod Adding
-pub mod Finding

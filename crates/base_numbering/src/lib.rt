@@ -1,8 +1,0 @@
-//! Things by number: keys in the order in which they came, and sets of numbers.
-#![tactic(auto)]
-
-mod keys;
-mod numbers;
-
-pub use keys::{Key, Numbered};
-pub use numbers::NumberSet;

@@ -1,7 +1,0 @@
-//! Sets of positions of files, as bits.
-#![tactic(auto)]
-
-mod set;
-mod words;
-
-pub use set::PositionSet;

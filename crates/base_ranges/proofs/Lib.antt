@@ -1,5 +1,0 @@
--- The lemmas.
-pub mod Ranging
-pub mod LongNumbers
-pub mod CountedWords
-pub mod Sized

@@ -1,6 +1,0 @@
-use Rattle.std.proofs.Common.{◌/◌, length, sym, ap, ◌∙◌}
-use Rattle.base_ranges.proofs.LongNumbers.{length-long_numbers}
-use Rattle.base_ranges.proofs.numbers.Numbers.len.Goals as goal
-
-pub returns : goal.returns
-returns c = sym (length-long_numbers (length c.self.inside.bytes.now / 8) c.self.inside.bytes.now) ∙ ap length c.self.view_is

@@ -1,6 +1,0 @@
-use Rattle.std.proofs.Common.{drop}
-use Rattle.base_ranges.proofs.CountedWords.{AreShort}
-use Rattle.base_ranges.proofs.words.has_word_sizes.Given as goal
-
-abbrev pub invariant-loop : goal.invariant-loop
-invariant-loop l = AreShort (drop l.fn.range.start l.fn.bytes) l.count l.counter l.reader

@@ -1,4 +1,0 @@
--- The definitions.
-pub mod Ranges
-pub mod TextRefs
-pub mod Sizes

@@ -1,5 +1,0 @@
--- The lemmas.
-pub mod Reaching
-pub mod Linking
-pub mod Walking
-pub mod Differing

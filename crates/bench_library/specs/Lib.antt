@@ -1,0 +1,4 @@
+-- The definitions.
+pub mod Counts
+pub mod Graphs
+pub mod Projects

@@ -1,9 +1,0 @@
--- Answers to the goals of `gather`: where memory is wanting, what is left there has nothing.
-use Rattle.std.proofs.Common.{sym, subst}
-use Rattle.build_loop.specs.Requests.{IsGathered}
-use Rattle.build_loop.proofs.requests.gather.Goals as goal
-
-pub returns-in_err-all-clause-gathered : goal.returns-in_err-all-clause-gathered
-returns-in_err-all-clause-gathered g c =
-    subst (IsGathered (g.K.Records.latest_of c.args.store.now) c.args.graph.now) (sym c.replace-before.ensures.after)
-    (c.new.ensures (g.K.Records.latest_of c.args.store.now) c.args.graph.now)

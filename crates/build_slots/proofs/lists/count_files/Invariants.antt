@@ -1,6 +1,0 @@
--- What the loop of `count_files` keeps: what the files so far depend on is noted.
-use Rattle.build_slots.specs.Counts.{AreCountedTo}
-use Rattle.build_slots.proofs.lists.count_files.Given as goal
-
-abbrev pub invariant-loop-at : goal.invariant-loop-at
-invariant-loop-at l = AreCountedTo l.graph l.checked l.made l.later l.at

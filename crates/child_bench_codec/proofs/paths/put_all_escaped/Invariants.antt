@@ -1,7 +1,0 @@
--- What holds at each turn of the loop of `put_all_escaped`: the bytes so far are put.
-use Rattle.std.proofs.Common.{◌≡◌, ◌++◌, take}
-use Rattle.test_spec.specs.Runs.{escaped}
-use Rattle.child_bench_codec.proofs.paths.put_all_escaped.Given as goal
-
-abbrev pub invariant-loop-byte : goal.invariant-loop-byte
-invariant-loop-byte l = l.out.items ≡ l.fn.out.items ++ escaped (take l.byte-index l.name)

@@ -1,0 +1,17 @@
+-- The lemmas.
+pub mod ArtefactExamples
+pub mod Sizes
+pub mod Scripts
+pub mod ExportLines
+pub mod Linking
+pub mod Answering
+pub mod LoopExits
+pub mod PackageAnswers
+pub mod BenchAnswers
+pub mod AnswerExamples
+pub mod Artefacts
+pub mod Simulations
+pub mod PassedExits
+pub mod BenchCases
+pub mod BenchFound
+pub mod BenchExamples

@@ -1,3 +1,0 @@
--- The lemmas.
-pub mod ReadTexts
-pub mod Readings

@@ -1,6 +1,0 @@
--- The compiler that is part of the program makes the artefact of each file.
-use Rattle.generated_sizes.proofs.MadeNumbers.{makes_numbered}
-use Rattle.generated_sizes.proofs.laws.laws_of_made_numbers.Goals as goal
-
-pub returns : goal.returns
-returns c answer count is small = makes_numbered answer is count small

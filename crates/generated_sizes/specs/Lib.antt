@@ -1,3 +1,0 @@
--- The definitions.
-pub mod SaidOfSizes
-pub mod SizeExamples

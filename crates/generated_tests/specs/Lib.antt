@@ -1,4 +1,0 @@
--- The definitions.
-pub mod TestedBench
-pub mod BenchTests
-pub mod TestExamples

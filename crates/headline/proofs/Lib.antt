@@ -1,0 +1,12 @@
+-- The lemmas.
+pub mod CleanEnds
+pub mod TrueRequests
+pub mod OldStores
+pub mod MadeNumbers
+pub mod BothReadings
+pub mod PassedRuns
+pub mod SaidOfSizes
+pub mod Answered
+pub mod Examples
+mod ChainTruths
+mod GeneratedSizes

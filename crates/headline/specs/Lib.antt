@@ -1,0 +1,5 @@
+-- The definitions.
+pub mod TrueViews
+pub mod SaidOfSizes
+pub mod SizeExamples
+pub mod Chains

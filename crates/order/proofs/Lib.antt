@@ -1,0 +1,10 @@
+-- The lemmas.
+pub mod Finds
+pub mod Members
+pub mod Taking
+pub mod Cycles
+pub mod Reaching
+pub mod Times
+pub mod WaitSteps
+pub mod Takes
+pub mod Waits

@@ -1,5 +1,0 @@
--- What remains to be proved of `untaken`.
-use Rattle.order_files.proofs.untaken.untaken.Goals as goal
-
-pub returns : goal.returns
-returns c edges taken is = let both = c.waiting.ensures _ _ _ _ is in record { as_many = both.0; each = both.1 }

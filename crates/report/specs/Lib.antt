@@ -1,0 +1,10 @@
+-- The definitions.
+pub mod Texts
+pub mod Outcomes
+pub mod Status
+pub mod Counts
+pub mod TestTexts
+pub mod Junit
+pub mod Said
+pub mod Listing
+pub mod Export

@@ -1,8 +1,0 @@
--- What the loop of `put_listed_lines` keeps: the lines of the files so far are put.
-use Rattle.std.proofs.Common.{◌≡◌, ◌++◌, take}
-use Rattle.std.specs.List.{flat_map}
-use Rattle.report_run.specs.Texts.{listed_line}
-use Rattle.report_run.proofs.listing.put_listed_lines.Given as goal
-
-abbrev pub invariant-loop-i : goal.invariant-loop-i
-invariant-loop-i l = l.out.items ≡ l.fn.out.items ++ flat_map listed_line (take l.i l.entries)

@@ -1,7 +1,0 @@
--- What the loops of `put_files` keep, and why they end.
-use Rattle.std.proofs.Common.{◌≡◌, ◌++◌, drop}
-use Rattle.report_run.specs.Texts.{files_text}
-use Rattle.report_run.proofs.report.put_files.Given as goal
-
-abbrev pub invariant-loop-i : goal.invariant-loop-i
-invariant-loop-i l = l.out.items ++ files_text l.limit (drop l.i l.entries) (drop l.i l.marks) ≡ l.fn.out.items ++ files_text l.limit l.entries l.marks

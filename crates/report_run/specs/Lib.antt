@@ -1,4 +1,0 @@
--- The definitions of this crate.
-pub mod Texts
-pub mod Outcomes
-pub mod Status

@@ -1,8 +1,0 @@
--- What the loop of `put_runs` keeps: what is said of the runs so far is put.
-use Rattle.std.proofs.Common.{◌≡◌, ◌++◌, take}
-use Rattle.std.specs.List.{flat_map}
-use Rattle.report_verdicts.specs.TestTexts.{run_text}
-use Rattle.report_verdicts.proofs.texts.put_runs.Given as goal
-
-abbrev pub invariant-loop-run : goal.invariant-loop-run
-invariant-loop-run l = l.out.items ≡ l.fn.out.items ++ flat_map (run_text l.verbose l.quiet) (take l.run-index l.runs)

@@ -1,4 +1,0 @@
--- The definitions.
-pub mod Counts
-pub mod TestTexts
-pub mod Junit

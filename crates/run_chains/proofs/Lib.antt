@@ -1,3 +1,0 @@
--- The lemmas.
-mod ChainTruths
-mod GeneratedSizes

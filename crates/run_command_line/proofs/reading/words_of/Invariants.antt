@@ -1,7 +1,0 @@
-use Rattle.std.proofs.Common.{◌≡◌, true, map, take}
-use Rattle.std.specs.List.{list_all}
-use Rattle.std.specs.Str.{is_utf8}
-use Rattle.run_command_line.proofs.reading.words_of.Given as goal
-
-abbrev pub invariant-loop-word : goal.invariant-loop-word
-invariant-loop-word l = (list_all is_utf8 (take l.word-index l.words) ≡ true) × (map (λ word. word.now) l.read.items ≡ take l.word-index l.words)

@@ -1,0 +1,16 @@
+-- What remains to be proved of `lost`.
+use Rattle.run_spec.specs.Moves.{after_move}
+use Rattle.run_spec.specs.Steps.{without_ticket}
+use Rattle.run_spec.proofs.PlainSteps.{lawful_end}
+use Rattle.run_scheduler.proofs.SchedulerSteps.{greedy_end}
+use Rattle.run_scheduler.proofs.test_scheduler.TestScheduler.record_loss.Goals as goal
+
+pub returns-clause-lawful : goal.returns-clause-lawful
+returns-clause-lawful c workload schedule is = lawful_end schedule c.args.ticket c.end_child-at.result (c.end_child-at.ensures.position workload schedule is)
+
+pub returns-clause-greedy : goal.returns-clause-greedy
+returns-clause-greedy c workload schedule is waits = greedy_end c.args.self.now workload schedule is waits
+
+pub returns-clause-in_step : goal.returns-clause-in_step
+unfolding after_move
+returns-clause-in_step c workload schedule is = c.stop.ensures.in_step workload (without_ticket c.args.ticket schedule) (c.end_child-at.ensures.in_step workload schedule is)

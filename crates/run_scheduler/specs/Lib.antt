@@ -1,0 +1,5 @@
+-- The definitions.
+pub mod Plans
+pub mod Counts
+pub mod Machines
+pub mod Rows

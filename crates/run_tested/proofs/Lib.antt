@@ -1,3 +1,0 @@
--- The lemmas.
-mod BothParts
-mod TestsAfter

@@ -1,4 +1,0 @@
--- The lemmas.
-pub mod CleanLibraries
-pub mod TestedRights
-pub mod TestsEnded

@@ -1,4 +1,0 @@
--- The definitions.
-pub mod Libraries
-pub mod Histories
-pub mod Rights

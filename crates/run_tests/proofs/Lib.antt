@@ -1,0 +1,12 @@
+-- The lemmas.
+mod Borrowed
+mod Found
+mod TestsThen
+pub mod FreshTickets
+pub mod Answering
+mod WholeTests
+mod BothParts
+mod TestsAfter
+pub mod CleanLibraries
+pub mod TestedRights
+pub mod TestsEnded

@@ -1,0 +1,9 @@
+-- The definitions.
+pub mod Requests
+pub mod Results
+pub mod UnderWay
+pub mod Ran
+pub mod Tested
+pub mod Libraries
+pub mod Histories
+pub mod Rights

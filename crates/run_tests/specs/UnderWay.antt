@@ -1,0 +1,46 @@
+-- Runs of tests that are under way: what has happened, the row, and what became of the runs so far.
+use Rattle.std.specs.Prelude.{◌≡◌, ℕ, Bool, false, List, ◌++◌, IfSome}
+use Rattle.std.specs.List.{list_any}
+use Rattle.base.specs.declared.child.Request.{Request}
+use Rattle.base.specs.declared.child.Exit.{Exit}
+use Rattle.base.specs.declared.child.Event.{Event}
+use Rattle.base.specs.declared.child.Event.TheVariants.{Started, Ended, Gone}
+use Rattle.base.specs.declared.graph.BuiltFile.{BuiltFile}
+use Rattle.outside.specs.Children.{started_with}
+use Rattle.run_spec.specs.Moves.{empty_schedule, LawfulMoves, GreedyMoves}
+use Rattle.run_spec.specs.ChildJournal.{EachAfter, HasFreshTicket, is_gone}
+use Rattle.testbench_runs.specs.declared.runs.TestRun.{TestRun}
+use Rattle.testbench_runs.specs.declared.ends.RunEnd.{RunEnd}
+use Rattle.run_spec.specs.TestJournal.{TestSetting, test_workload, test_moves, empty_tests, progress_of_tests, AreTestsRequested}
+use Rattle.run_spec.specs.Steps.{halted_if}
+use Rattle.run_scheduler.specs.declared.test_scheduler.TestScheduler.{TestScheduler}
+use Rattle.run_scheduler.specs.Rows.{IsSchedulerOf}
+use Rattle.run_tests.specs.Results.{test_ends}
+
+-- runs with their simulator over files that were built, so many at once
+abbrev pub tests_with : List TestRun → List (List ℕ) → List BuiltFile → (slots : ℕ) → (fail_fast : Bool) → TestSetting
+tests_with runs simulator built slots fail_fast = record { plan = record { runs = runs; simulator = simulator; fail_fast = fail_fast }; built = built; slots = slots }
+
+-- What holds after these events: they are lawful moves with their requests, the row is that of what has happened, and
+-- while no fault is noted no end was waited for too early, none is lost, and what was found is what became of the runs.
+pub record AreUnderWay (setting : TestSetting) (events : List Event) (scheduler : TestScheduler) (found : List RunEnd) (first_fault : Bool) : Type 0 where
+  pub moves : LawfulMoves (test_workload setting) empty_schedule (test_moves setting empty_tests events)
+  pub requests : AreTestsRequested setting empty_tests events
+  pub greedy : first_fault ≡ false → GreedyMoves (test_workload setting) empty_schedule (test_moves setting empty_tests events)
+  pub none_lost : first_fault ≡ false → list_any is_gone events ≡ false
+  pub in_step : IsSchedulerOf scheduler (test_workload setting) (halted_if first_fault (progress_of_tests setting events).schedule)
+  pub found_all : first_fault ≡ false → found ≡ test_ends setting events
+
+-- an exit is the answer to what its ticket was started with, where that was started before
+abbrev pub AnswersStart : (Request → Exit) → List Event → Event → Type 0
+AnswersStart answer before (Started ticket request) = Unit {0}
+AnswersStart answer before (Ended ticket exit) = IfSome (started_with ticket before) (λ request. exit ≡ answer request)
+AnswersStart answer before (Gone ticket) = Unit {0}
+
+-- all that holds of runs that are under way, over children that tell and answer so
+pub record Goes (tells : Type 0) (answer : Request → Exit) (setting : TestSetting) (old : List Event) (scheduler : TestScheduler) (found : List RunEnd) (first_fault : Bool) (new : List Event) : Type 0 where
+  pub events : List Event
+  pub under_way : AreUnderWay setting events scheduler found first_fault
+  pub journal : tells → new ≡ old ++ events
+  pub fresh : tells → EachAfter HasFreshTicket old events
+  pub answers : tells → EachAfter (AnswersStart answer) old events

@@ -1,0 +1,42 @@
+//! Laws of what tests start over, as a function with an empty body: a caller cites one by calling it.
+
+ghost use Rattle.std.specs.Prelude.{◌≡◌, [], true, Bool, List, Result};
+ghost use Rattle.std.specs.List.{list_all};
+ghost use Rattle.base.specs.declared.child.Request.{Request};
+ghost use Rattle.base.specs.declared.child.Exit.{Exit};
+ghost use Rattle.base.specs.declared.child.Event.{Event};
+ghost use Rattle.base.specs.Graphs.{IsGraph};
+ghost use Rattle.outside.specs.Records.{Record};
+ghost use Rattle.outside.specs.Disks.{Image, Moments};
+ghost use Rattle.run_spec.specs.ChildJournal.{Work, Lawful, Answered};
+ghost use Rattle.run_spec.specs.CleanBuild.{RecordsClean};
+ghost use Rattle.run_spec.specs.Faithful.{IsFaithfulDisk};
+ghost use Rattle.run_spec.specs.Statuses.{statuses_of};
+ghost use Rattle.run_spec.specs.Histories.{Order, IsReadable, work_over};
+ghost use Rattle.run_build.specs.Ran.{built_by, is_made};
+ghost use Rattle.run_spec.specs.declared.fault.RunFault.{RunFault};
+ghost use Rattle.run_spec.specs.TestJournal.{TestPlan};
+ghost use Rattle.run_tests.specs.declared.build_and_test.Tested.{Tested};
+ghost use Rattle.run_tests.specs.Tested.{TestsOver, setting_after};
+ghost use Rattle.run_tests.specs.Libraries.{libraries};
+
+/// What holds of the files that tests start over.
+pub fn laws_of_libraries()
+    // Where what is recorded is what a clean build makes, and all files are made in the end, what was built are the
+    // libraries of a clean build.
+    ensures built { (answer : Request → Exit) (work : Work) → IsGraph work.graph →
+        RecordsClean answer work.graph work.current → (events : List Event) →
+        Lawful work events → Answered answer events →
+        list_all is_made (statuses_of work events) ≡ true →
+        built_by work events ≡ libraries answer work.graph }
+    // So from a disk of true records each test starts over these, whatever the answer is.
+    ensures tests { (records_of : Image → List Record) (answer : Request → Exit) (order : Order)
+        (plan : TestPlan) (result : Result Tested RunFault) (failed : Bool)
+        (old new : Moments) (events : List Event) →
+        IsReadable old.now →
+        IsFaithfulDisk answer records_of old.now →
+        (over : TestsOver records_of answer order plan result failed old new events) →
+        (over.tests ≡ [] → ⊥) →
+        (setting_after order plan (work_over records_of order old.now) over.compiled).built
+        ≡ libraries answer order.graph }
+{}

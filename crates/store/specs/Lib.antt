@@ -1,0 +1,10 @@
+-- The definitions.
+pub mod Words
+pub mod Kept
+pub mod Plans
+pub mod LookedUp
+pub mod Held
+pub mod Additions
+pub mod Taking
+pub mod Stored
+pub mod StoreLaws

@@ -1,4 +1,0 @@
--- The definitions of this crate.
-pub mod Words
-pub mod Kept
-pub mod Plans

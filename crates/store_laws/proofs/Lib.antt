@@ -1,4 +1,0 @@
--- Lemmas of this crate.
-pub mod CleanEnds
-pub mod TrueRequests
-pub mod OldStores

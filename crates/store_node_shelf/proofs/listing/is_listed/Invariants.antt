@@ -1,6 +1,0 @@
-use Rattle.std.proofs.Common.{◌≡◌}
-use Rattle.store_node_shelf.specs.Fits.{AreFrom, ArePlaced}
-use Rattle.store_node_shelf.proofs.listing.is_listed.Given as goal
-
-abbrev pub invariant-loop-number : goal.invariant-loop-number
-invariant-loop-number l = ArePlaced l.deps.numbers l.count l.inner l.number-index l.least × (l.covered.size ≡ l.fn.covered.size) × AreFrom l.fn.covered.numbers l.inner l.covered.numbers

@@ -1,3 +1,0 @@
--- The definitions.
-pub mod Stored
-pub mod StoreLaws

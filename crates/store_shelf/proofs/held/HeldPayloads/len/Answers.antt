@@ -1,8 +1,0 @@
-use Rattle.std.proofs.Common.{rules, inl, inr}
-use Rattle.store_shelf.proofs.held.HeldPayloads.len.Goals as goal
-
-pub overflow_add-result-2 : goal.overflow_add-result-2
-overflow_add-result-2 c = elim c.self.invariant [
-  | inl none ↦ search rules
-  | inr none ↦ search rules
-]

@@ -1,0 +1,5 @@
+-- The definitions.
+pub mod ProductRows
+pub mod Located
+pub mod Checked
+pub mod Cuts

@@ -1,0 +1,385 @@
+//! Taking up the payload of a record whose text a file has: the text is borrowed from there, and the other bytes alone are held.
+
+ghost use Rattle.std.specs.Prelude.{◌≡◌, ◌≤◌, ◌<◌, ◌+◌, ◌++◌, ◌∷◌, [], ℕ, List, Some, true, length, take, drop, Contains, IsTrue, IfOk, IfSome, OnOk};
+ghost use Rattle.base.specs.Names.{FitsName};
+ghost use Rattle.base_bytes.specs.declared.text_refs.TextRange.TheVariants.{Known, Full};
+ghost use Rattle.store_codec.specs.Forms.{request_payload_in};
+ghost use Rattle.store_codec.specs.Forms.RequestPayload.{OfRequest};
+ghost use Rattle.base_bytes.specs.TextRefs.TextRef.{ByNumber, InFull};
+ghost use Rattle.store_codec.specs.Ranges.{request_in_ranges};
+ghost use Rattle.base_bytes.specs.Ranges.{counted_numbers, counted_words, range_end, ranged};
+ghost use Rattle.base_bytes.specs.TextRefs.{ref_in_range};
+ghost use Rattle.store_codec.specs.RecordTables.{IsRequest, with_request};
+ghost use Rattle.store_table.specs.Checked.{AreTextNumbers, IsNameNumber};
+ghost use Rattle.store_table.specs.Cuts.{AreSameParts, HasTaken, IsCutOf, IsWithout, TookOrLeft, with_new_text, with_source};
+ghost use Rattle.store_table.specs.Located.{HasRowRoom, IsHeld, IsTableLocated, nth_payload, located_table, located_texts, with_cut};
+
+use crate::checking::checked_request;
+use crate::held::CutPayload;
+use crate::putting::put_request;
+use crate::taking::take_up;
+use crate::texts::put_text;
+use crate::{HeldPayloads, LocatedTable, TextNumbers, number_name};
+use base::{NoMemory, Text, TextList};
+use base_bytes::{ByteRange, TextRange, bytes_in, has_words, name_in};
+use base_collections::NumberSet;
+use std::alloc::Global;
+use store_codec::{PayloadRanges, RequestRanges, read_request_payload};
+
+/// The payload of a record without its text, and where the parts of the record are in what is left, its text by its number.
+#[derive(Drop)]
+pub struct CutRequest {
+    pub payload: CutPayload,
+    pub draft: RequestRanges,
+}
+
+/// Whether a range ends before another one begins, so that its bytes stay where they are without those of the other one.
+fn is_before(range: ByteRange, cut: ByteRange) -> bool
+    ensures { (bytes rest : List ℕ) → IsWithout bytes cut rest →
+        IsTrue result → ranged rest range ≡ ranged bytes range }
+{
+    range.start <= cut.start && range.count <= cut.start - range.start
+}
+
+/// Where a range is that begins after another one has ended, without the bytes of that one.
+fn shift_past(range: ByteRange, cut: ByteRange) -> Option<ByteRange>
+    ensures from { (bytes rest : List ℕ) → IsWithout bytes cut rest →
+        IfSome result (λ new. drop new.start rest ≡ drop range.start bytes) }
+    ensures count { IfSome result (λ new. new.count ≡ range.count) }
+{
+    if range.start < cut.start {
+        return None;
+    }
+    if range.start - cut.start < cut.count {
+        return None;
+    }
+    Some(ByteRange {
+        start: range.start - cut.count,
+        count: range.count,
+    })
+}
+
+/// The same of a text that is there or new.
+fn moved_ref(source: TextRange, cut: ByteRange) -> Option<TextRange>
+    ensures { (bytes rest : List ℕ) → IsWithout bytes cut rest →
+        IfSome result (λ new. ref_in_range rest new ≡ ref_in_range bytes source) }
+{
+    match source {
+        TextRange::Known(number) => Some(TextRange::Known(number)),
+        TextRange::Full(range) => {
+            let new = shift_past(range, cut)?;
+            Some(TextRange::Full(new))
+        }
+    }
+}
+
+/// Where the parts of a record are without its text, which has a number; none where a part is in the text.
+fn moved_request(draft: RequestRanges, cut: ByteRange, number: u64) -> Option<RequestRanges>
+    ensures source { IfSome result (λ new. new.source ≡ Known number) }
+    ensures words { IfSome result (λ new. new.words ≡ draft.words) }
+    ensures same { (bytes rest : List ℕ) → IsWithout bytes cut rest →
+        IfSome result (λ new. AreSameParts bytes draft rest new) }
+{
+    if !is_before(draft.library, cut) {
+        return None;
+    }
+    if !is_before(draft.path, cut) {
+        return None;
+    }
+    let deps = shift_past(draft.deps, cut)?;
+    let artefact = moved_ref(draft.artefact, cut)?;
+    Some(RequestRanges {
+        library: draft.library,
+        path: draft.path,
+        words: draft.words,
+        source: TextRange::Known(number),
+        deps,
+        artefact,
+    })
+}
+
+/// A copy of the bytes without those of a range.
+fn without(alloc: Global, bytes: &[u8], range: ByteRange) -> Result<Text, NoMemory>
+    requires { range_end range ≤ length bytes.now }
+    ensures { IfOk result (λ rest. IsWithout bytes.now range rest) }
+{
+    let end = range.start + range.count;
+    let mut rest = Vec::with_capacity(alloc, bytes.len() - range.count)?;
+    rest.extend_from_slice(&bytes[..range.start])?;
+    rest.extend_from_slice(&bytes[end..])?;
+    Ok(Text::from_vec(rest))
+}
+
+/// Whether so many bytes have a range.
+fn has_range(len: usize, range: ByteRange) -> bool
+    ensures { IsTrue result → range_end range ≤ len }
+{
+    range.start <= len && range.count <= len - range.start
+}
+
+/// The payload of a record without the text that it has in a range, where its words are these of a file, and none of its parts is
+/// in the text.
+fn cut_request(
+    alloc: Global,
+    payload: &[u8],
+    draft: RequestRanges,
+    range: ByteRange,
+    command: &TextList,
+    number: u64,
+    file: usize,
+) -> Result<Option<CutRequest>, NoMemory>
+    ensures { IfOk result (λ found.
+        IfSome found (λ cut. IsCutOf payload.now draft range number file cut)) }
+{
+    let Some(new) = moved_request(draft, range, number) else {
+        return Ok(None);
+    };
+    if !has_range(payload.len(), range) {
+        return Ok(None);
+    }
+    let rest = without(alloc, payload, range)?;
+    if !has_same_words(payload, rest.bytes(), draft.words, command) {
+        return Ok(None);
+    }
+    Ok(Some(CutRequest {
+        payload: CutPayload {
+            rest,
+            at: range.start,
+            file,
+        },
+        draft: new,
+    }))
+}
+
+/// Whether some bytes and some others have the words of a file from the start of a range on.
+fn has_same_words(bytes: &[u8], others: &[u8], words: ByteRange, command: &TextList) -> bool
+    ensures { IsTrue result → counted_words others.now words ≡ counted_words bytes.now words }
+{
+    if command.len() == 0 {
+        return false;
+    }
+    if !has_words(bytes, words, command) {
+        return false;
+    }
+    has_words(others, words, command)
+}
+
+/// Puts a text that isn't there, which is a segment, at the end.
+fn put_source(
+    table: &mut LocatedTable,
+    held: &HeldPayloads<'_>,
+    segment: usize,
+) -> Result<(), NoMemory>
+    requires segment { segment < length held.now.segments }
+    requires table { IsTableLocated held.now.segments table.old }
+    requires new { ¬ Contains (located_texts held.now.segments table.old.texts)
+        (nth_payload held.now.segments segment) }
+    ensures are { OnOk result (IsTableLocated held.now.segments table.new) }
+    ensures is { OnOk result
+        (located_table held.now.segments table.new
+        ≡ with_new_text (located_table held.now.segments table.old)
+        (nth_payload held.now.segments segment)) }
+    ensures names { table.new.names.keys ≡ table.old.names.keys }
+{
+    table.reserve()?;
+    let count = held.get(segment).len();
+    put_text(
+        &mut table.texts,
+        held,
+        segment,
+        ByteRange { start: 0, count },
+    );
+    Ok(())
+}
+
+/// Puts a record whose text is new, and a segment, and whose other parts are in another segment.
+fn put_cut_request(
+    table: &mut LocatedTable,
+    held: &HeldPayloads<'_>,
+    at: usize,
+    segment: usize,
+    draft: RequestRanges,
+    name: usize,
+    numbers: TextNumbers,
+) -> Result<(), NoMemory>
+    requires at { at < length held.now.segments }
+    requires segment { segment < length held.now.segments }
+    requires table { IsTableLocated held.now.segments table.old }
+    requires name { IsNameNumber table.old.names.keys
+        (request_in_ranges (nth_payload held.now.segments at) draft).name name }
+    requires source { draft.source ≡ Known numbers.text }
+    requires request { IsRequest (located_table held.now.segments table.old)
+        (with_source (InFull (nth_payload held.now.segments segment))
+        (request_in_ranges (nth_payload held.now.segments at) draft)) }
+    requires numbers { AreTextNumbers (located_texts held.now.segments table.old.texts)
+        (with_source (InFull (nth_payload held.now.segments segment))
+        (request_in_ranges (nth_payload held.now.segments at) draft))
+        numbers }
+    ensures are { OnOk result (IsTableLocated held.now.segments table.new) }
+    ensures is { OnOk result
+        (located_table held.now.segments table.new
+        ≡ with_request (located_table held.now.segments table.old)
+        (with_source (InFull (nth_payload held.now.segments segment))
+        (request_in_ranges (nth_payload held.now.segments at) draft))) }
+{
+    put_source(table, held, segment)?;
+    table.reserve()?;
+    put_request(table, held, at, draft, name, numbers);
+    Ok(())
+}
+
+/// Adds the payload of a record without its text, which is that of a file, and takes it up.
+fn take_cut(
+    table: &mut LocatedTable,
+    held: &mut HeldPayloads<'_>,
+    payload: &[u8],
+    draft: RequestRanges,
+    range: ByteRange,
+    name: usize,
+    numbers: TextNumbers,
+    cut: CutRequest,
+) -> Result<(), NoMemory>
+    requires held { IsHeld held.old.segments held.old.payloads table.old }
+    requires read { request_payload_in payload.now
+        ≡ Some (OfRequest (request_in_ranges payload.now draft)) }
+    requires source { draft.source ≡ Full range }
+    requires name { IsNameNumber table.old.names.keys
+        (request_in_ranges payload.now draft).name name }
+    requires request { IsRequest (located_table held.old.segments table.old)
+        (request_in_ranges payload.now draft) }
+    requires numbers { AreTextNumbers (located_texts held.old.segments table.old.texts)
+        (request_in_ranges payload.now draft) numbers }
+    requires cut { IsCutOf payload.now draft range numbers.text name cut }
+    requires file { name < length held.old.borrowed }
+    requires within { name < length held.old.segments }
+    requires text { nth_payload held.old.segments name ≡ ranged payload.now range }
+    ensures { OnOk result (HasTaken held.old held.new table.new payload.now) }
+{
+    let CutRequest {
+        payload: cut,
+        draft: new,
+    } = cut;
+    let at = held.len();
+    held.put_cut(cut)?;
+    put_cut_request(table, held, at, name, new, name, numbers)?;
+    Ok(())
+}
+
+/// Takes up the payload of a record, if a file of the number of its name has its text and its words.
+fn take_over_file(
+    alloc: Global,
+    table: &mut LocatedTable,
+    set: &mut NumberSet,
+    held: &mut HeldPayloads<'_>,
+    payload: &[u8],
+    draft: RequestRanges,
+    range: ByteRange,
+    name: usize,
+) -> Result<bool, NoMemory>
+    requires held { IsHeld held.old.segments held.old.payloads table.old }
+    requires read { request_payload_in payload.now
+        ≡ Some (OfRequest (request_in_ranges payload.now draft)) }
+    requires source { draft.source ≡ Full range }
+    requires name { IsNameNumber table.old.names.keys
+        (request_in_ranges payload.now draft).name name }
+    requires fits { FitsName (request_in_ranges payload.now draft).name }
+    ensures { IfOk result (λ taken. TookOrLeft taken held.old held.new table.new payload.now) }
+{
+    let Some(file) = held.file(name) else {
+        return Ok(false);
+    };
+    if bytes_in(payload, range) != file.text.bytes() {
+        return Ok(false);
+    }
+    let Some(numbers) = checked_request(set, held, table, payload, draft, name)? else {
+        return Ok(false);
+    };
+    let number = numbers.text as u64;
+    let Some(cut) = cut_request(alloc, payload, draft, range, &file.command, number, name)? else {
+        return Ok(false);
+    };
+    take_cut(table, held, payload, draft, range, name, numbers, cut)?;
+    Ok(true)
+}
+
+/// Takes up the payload of a record, if a file of its name has its text and its words.
+fn take_slice_request(
+    alloc: Global,
+    table: &mut LocatedTable,
+    set: &mut NumberSet,
+    held: &mut HeldPayloads<'_>,
+    payload: &[u8],
+    draft: RequestRanges,
+) -> Result<bool, NoMemory>
+    requires held { IsHeld held.old.segments held.old.payloads table.old }
+    requires read { request_payload_in payload.now
+        ≡ Some (OfRequest (request_in_ranges payload.now draft)) }
+    ensures { IfOk result (λ taken. TookOrLeft taken held.old held.new table.new payload.now) }
+{
+    let TextRange::Full(range) = draft.source else {
+        return Ok(false);
+    };
+    let name = name_in(alloc, payload, draft.library, draft.path)?;
+    if !name.is_within_limits() {
+        return Ok(false);
+    }
+    let number = number_name(table, name)?;
+    take_over_file(alloc, table, set, held, payload, draft, range, number)
+}
+
+/// Takes up a payload, if it is that of a record of which a file has the text.
+fn take_slice(
+    alloc: Global,
+    table: &mut LocatedTable,
+    set: &mut NumberSet,
+    held: &mut HeldPayloads<'_>,
+    payload: &[u8],
+) -> Result<bool, NoMemory>
+    requires { IsHeld held.old.segments held.old.payloads table.old }
+    ensures { IfOk result (λ taken. TookOrLeft taken held.old held.new table.new payload.now) }
+{
+    match read_request_payload(payload) {
+        Some(PayloadRanges::OfRequest(draft)) => {
+            take_slice_request(alloc, table, set, held, payload, draft)
+        }
+        Some(PayloadRanges::OfProduct(_draft)) => Ok(false),
+        None => Ok(false),
+    }
+}
+
+/// Adds a copy of a payload, and takes it up.
+fn take_whole(
+    alloc: Global,
+    table: &mut LocatedTable,
+    set: &mut NumberSet,
+    held: &mut HeldPayloads<'_>,
+    payload: &[u8],
+) -> Result<(), NoMemory>
+    requires { IsHeld held.old.segments held.old.payloads table.old }
+    ensures { OnOk result (HasTaken held.old held.new table.new payload.now) }
+{
+    let copy = Text::from_slice(alloc, payload)?;
+    let at = held.len();
+    held.put_whole(copy)?;
+    take_up(alloc, table, set, held, at)?;
+    Ok(())
+}
+
+/// Takes up one more payload. The text that a record has is borrowed from the file of its name, if that has the same text and the
+/// same words, and else is copied with the payload, which is borrowed for this call alone.
+pub fn take_payload(
+    alloc: Global,
+    table: &mut LocatedTable,
+    set: &mut NumberSet,
+    held: &mut HeldPayloads<'_>,
+    payload: &[u8],
+) -> Result<(), NoMemory>
+    requires { IsHeld held.old.segments held.old.payloads table.old }
+    ensures { OnOk result (HasTaken held.old held.new table.new payload.now) }
+{
+    let taken = take_slice(alloc, table, set, held, payload)?;
+    if taken {
+        return Ok(());
+    }
+    take_whole(alloc, table, set, held, payload)
+}

@@ -1,4 +1,0 @@
--- The lemmas.
-pub mod Following
-pub mod RowParts
-pub mod ShelfRows

@@ -1,7 +1,0 @@
--- So far a verdict for each name up to the index.
-use Rattle.std.proofs.Common.{◌≡◌, map, take}
-use Rattle.test_spec.specs.declared.ends.Verdict.TheVariants.{Skipped}
-use Rattle.test_loop.proofs.results.all_skipped.Given as goal
-
-abbrev pub invariant-loop : goal.invariant-loop
-invariant-loop l = l.list ≡ map (λ name. Skipped) (take l.index l.items)

@@ -1,7 +1,0 @@
--- So far what became of the runs up to the index.
-use Rattle.std.proofs.Common.{◌≡◌, map, take}
-use Rattle.test_spec.specs.Verdicts.{unstarted_run}
-use Rattle.test_loop.proofs.results.unstarted_runs.Given as goal
-
-abbrev pub invariant-loop-run : goal.invariant-loop-run
-invariant-loop-run l = l.found.items ≡ map unstarted_run (take l.run-index l.runs)

@@ -1,5 +1,0 @@
--- The lemmas.
-mod Strings
-mod UnitNames
-mod ReadBenches
-mod Fitting

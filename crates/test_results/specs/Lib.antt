@@ -1,3 +1,0 @@
--- The definitions.
-pub mod Lines
-pub mod Starts

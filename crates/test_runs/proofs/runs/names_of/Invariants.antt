@@ -1,7 +1,0 @@
--- So far the names of the cases up to the index.
-use Rattle.std.proofs.Common.{◌≡◌, map, take}
-use Rattle.vhdl_benches.specs.declared.bench.TestCase.{TestCase}
-use Rattle.test_runs.proofs.runs.names_of.Given as goal
-
-abbrev pub invariant-loop-test : goal.invariant-loop-test
-invariant-loop-test l = l.names ≡ map (λ (test : TestCase). test.name) (take l.test-index l.bench.cases)

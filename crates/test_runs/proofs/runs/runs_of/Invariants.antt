@@ -1,7 +1,0 @@
--- So far the runs of the benches up to the index.
-use Rattle.std.proofs.Common.{◌≡◌, take}
-use Rattle.test_spec.specs.Runs.{test_runs}
-use Rattle.test_runs.proofs.runs.runs_of.Given as goal
-
-abbrev pub invariant-loop-bench : goal.invariant-loop-bench
-invariant-loop-bench l = l.runs ≡ test_runs l.project.files (take l.bench-index l.tests)

@@ -1,7 +1,0 @@
--- So far the cases of the strings up to the index.
-use Rattle.std.proofs.Common.{◌≡◌, map, take}
-use Rattle.vhdl_runs.specs.Calls.{string_case}
-use Rattle.test_scan.proofs.called.called_cases.Given as goal
-
-abbrev pub invariant-loop-string : goal.invariant-loop-string
-invariant-loop-string l = l.cases ≡ map (string_case l.file l.text) (take l.string-index l.strings)

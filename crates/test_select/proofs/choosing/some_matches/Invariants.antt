@@ -1,7 +1,0 @@
--- So far none matches.
-use Rattle.std.proofs.Common.{◌≡◌, false, take}
-use Rattle.test_select.specs.Choosing.{some_matches}
-use Rattle.test_select.proofs.choosing.some_matches.Given as goal
-
-abbrev pub invariant-loop-number : goal.invariant-loop-number
-invariant-loop-number l = some_matches l.patterns (take l.number-index l.numbers) l.name ≡ false

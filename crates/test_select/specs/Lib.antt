@@ -1,7 +1,0 @@
--- The definitions of this crate.
-pub mod Patterns
-pub mod Matching
-pub mod Segments
-pub mod Fits
-pub mod Selection
-pub mod Choosing

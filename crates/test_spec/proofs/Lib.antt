@@ -1,3 +1,0 @@
--- The lemmas.
-pub mod BenchRuns
-pub mod NameSets

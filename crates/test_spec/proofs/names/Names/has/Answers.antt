@@ -1,8 +1,0 @@
--- What remains to be proved of `has`.
-use Rattle.std.proofs.Common.{ℕ, List, ap, ◌∙◌}
-use Rattle.test_spec.specs.Verdicts.{has_case}
-use Rattle.test_spec.proofs.NameSets.{finds}
-use Rattle.test_spec.proofs.names.Names.has.Goals as goal
-
-pub returns : goal.returns
-returns c = c.contains.ensures ∙ finds c.args.name.now c.self.inside.set.keys ∙ ap (λ (names : List (List ℕ)). has_case names c.args.name.now) c.self.view_is

@@ -1,5 +1,0 @@
--- The definitions.
-pub mod Runs
-pub mod Configuration
-pub mod BenchJobs
-pub mod Verdicts

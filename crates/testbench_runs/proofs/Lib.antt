@@ -1,0 +1,4 @@
+-- The lemmas.
+pub mod BenchRuns
+pub mod NameSets
+pub mod Sayings

@@ -1,0 +1,16 @@
+//! Laws of benches, as functions with empty bodies: a caller cites one by calling it.
+
+ghost use Rattle.std.specs.Prelude.{◌≡◌, ◌≢◌, AllPairs, Contains, List, Ok};
+ghost use Rattle.std.specs.List.{flat_map};
+ghost use Rattle.base_outcomes.specs.declared.bench.Bench.{Bench};
+ghost use Rattle.testbench_select.specs.Selection.{bench_names};
+ghost use Rattle.testbench_scan.specs.Benches.{IsBenchOfOne, ScannedFiles, tests_of};
+
+/// Where there is no fault, each bench is that of an entity with one architecture, and has the cases of that
+/// architecture or, where it calls none, the one case `all`; and no two cases have one full name.
+pub fn laws_of_benches()
+    ensures made { (sources : ScannedFiles) (tests : List Bench) (bench : Bench) →
+        tests_of sources ≡ Ok tests → Contains tests bench → IsBenchOfOne sources bench }
+    ensures distinct { (sources : ScannedFiles) (tests : List Bench) →
+        tests_of sources ≡ Ok tests → AllPairs (λ a b. a ≢ b) (flat_map bench_names tests) }
+{}

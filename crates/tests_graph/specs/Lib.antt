@@ -1,3 +1,0 @@
--- What the tests say of what they make.
-pub mod Deps
-pub mod Outlines

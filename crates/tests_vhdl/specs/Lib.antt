@@ -1,0 +1,3 @@
+-- The definitions.
+pub mod Deps
+pub mod Outlines

@@ -1,6 +1,0 @@
--- The table of letters is right at each byte.
-use Rattle.vhdl_lex.proofs.WordTable.{lowered_is}
-use Rattle.vhdl_lex.proofs.reserved.lowered.Goals as goal
-
-pub returns : goal.returns
-returns c = lowered_is c.args.byte c.ranges.byte.fits

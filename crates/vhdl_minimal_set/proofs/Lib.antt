@@ -1,8 +1,0 @@
--- Lemmas of this crate.
-pub mod Tests
-mod SupplierLemmas
-mod TakingLemmas
-mod Supplied
-mod IndexLemmas
-mod Walk
-pub mod Least

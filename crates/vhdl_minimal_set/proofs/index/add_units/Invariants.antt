@@ -1,7 +1,0 @@
--- The units up to the index were added.
-use Rattle.std.proofs.Common.{take}
-use Rattle.vhdl_minimal_set.specs.Suppliers.{AddsAll}
-use Rattle.vhdl_minimal_set.proofs.index.add_units.Given as goal
-
-abbrev pub invariant-loop-unit : goal.invariant-loop-unit
-invariant-loop-unit l = AddsAll l.library (take l.unit-index l.units) l.file l.count l.initial.index l.index

@@ -1,0 +1,11 @@
+-- 32 tokens more.
+use Rattle.std.proofs.Common.{◌+◌}
+use Rattle.vhdl_spec.proofs.PassingSteps.{passed_here, passed_on}
+use Rattle.vhdl_outline.specs.Dots.{is_dotted}
+use Rattle.vhdl_outline.proofs.dots.pass_many.Goals as goal
+
+pub loop-at-init : goal.loop-at-init
+loop-at-init c = passed_here (is_dotted c.args.roles.now) c.args.from c.args.end c.requires.ordered
+
+pub loop-at-preserved : goal.loop-at-preserved
+loop-at-preserved c = passed_on (is_dotted c.args.roles.now) c.args.from c.loop-at.at c.args.end (c.loop-at.at + 32) c.loop-at.invariant (c.is_undotted.ensures c.loop-at-test.true)

@@ -1,0 +1,11 @@
+-- The definitions.
+pub mod Clauses
+pub mod Dots
+pub mod Indices
+pub mod Components
+pub mod UnresolvedRefs
+pub mod Calls
+pub mod Runs
+pub mod Passing
+pub mod Outlines
+pub mod Roles

@@ -1,6 +1,0 @@
--- The clause so far.
-use Rattle.vhdl_refs.specs.Clauses.{IsClauseAt}
-use Rattle.vhdl_refs.proofs.clause.clause_at.Given as goal
-
-abbrev pub invariant-loop-at : goal.invariant-loop-at
-invariant-loop-at l = IsClauseAt l.roles l.at l.clause

@@ -1,8 +1,0 @@
--- The words of subprograms so far.
-use Rattle.std.proofs.Common.{◌≡◌, take}
-use Rattle.std.specs.List.{list_any}
-use Rattle.vhdl_units.specs.Marks.{is_subprogram_word}
-use Rattle.vhdl_units.proofs.marks.has_subprogram.Given as goal
-
-abbrev pub invariant-loop-role : goal.invariant-loop-role
-invariant-loop-role l = l.found ≡ list_any is_subprogram_word (take l.role-index l.roles)

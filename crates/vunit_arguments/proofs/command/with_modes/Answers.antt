@@ -1,0 +1,14 @@
+use Rattle.std.proofs.Common.{◌∙◌, ap₂, refl}
+use Rattle.clap.specs.Words.{with_rule}
+use Rattle.vunit_arguments.proofs.command.with_modes.Goals as goal
+
+pub returns : goal.returns
+returns c =
+    let with1 = c.in_ok-command.ensures ∙ ap₂ with_rule refl c.lettered_flag.ensures.rule in
+    let with2 = c.in_ok-command-2.ensures ∙ ap₂ with_rule with1 c.lettered_flag-2.ensures.rule in
+    let with3 = c.in_ok-command-3.ensures ∙ ap₂ with_rule with2 c.flag.ensures.rule in
+    let with4 = c.in_ok-command-4.ensures ∙ ap₂ with_rule with3 c.lettered_flag-3.ensures.rule in
+    let with5 = c.in_ok-command-5.ensures ∙ ap₂ with_rule with4 c.lettered_flag-4.ensures.rule in
+    let with6 = c.in_ok-command-6.ensures ∙ ap₂ with_rule with5 c.flag-2.ensures.rule in
+    let with7 = c.in_ok-command-7.ensures ∙ ap₂ with_rule with6 c.flag-3.ensures.rule in
+    with7
