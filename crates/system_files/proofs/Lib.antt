@@ -1,3 +1,4 @@
 -- The lemmas.
 mod Prefixes
 mod Listings
+mod LineParts

@@ -18,7 +18,7 @@ const CHUNK: usize = 65536;
 
 /// Bytes that were read and aren't taken yet: those of a buffer from a start to an end.
 #[derive(Drop)]
-pub(crate) struct Buffered {
+pub struct Buffered {
     buffer: Vec<u8>,
     start: usize,
     end: usize,
@@ -36,7 +36,7 @@ impl Model for Buffered {
 
 impl Buffered {
     /// Nothing is read yet.
-    pub(crate) fn new(alloc: Global) -> Result<Buffered, NoMemory>
+    pub fn new(alloc: Global) -> Result<Buffered, NoMemory>
         ensures { IfOk result (λ buffered. buffered ≡ []) }
     {
         Ok(Buffered {

@@ -35,11 +35,13 @@ mod walk;
 mod watched;
 mod writing;
 
+pub use buffered::Buffered;
 pub use cause::{Cause, cause_line, name_cause};
 pub use disk::FileDisk;
 pub use files::{means_absent, read_file, read_regular_file};
 pub use holder::lock_holder;
 pub use line::{LINE_LIMIT, end_line, shorten_line};
+pub use lines::{take_line, take_rest};
 pub use listing::OUTPUT_FOLDER;
 pub use location::{Location, location_line, location_of};
 pub use look::{Unread, unread_records};

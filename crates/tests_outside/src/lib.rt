@@ -19,6 +19,8 @@ mod files;
 #[cfg(test)]
 mod fingerprint_index;
 #[cfg(test)]
+mod lines;
+#[cfg(test)]
 mod lists;
 #[cfg(test)]
 mod name_set;

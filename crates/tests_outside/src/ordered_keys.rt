@@ -1,5 +1,7 @@
 //! Keys that are numbered and looked up, whether they are at their buckets or not.
 
+ghost use Rattle.std.proofs.Common.{rules};
+
 use base::NoMemory;
 use base_collections::{Key, KeyMap, KeyNumbers};
 use std::alloc::Global;

@@ -73,8 +73,22 @@ fn goes(
 fn a_case_passes_and_a_child_without_results_fails(rt: HostRuntime) -> Result<(), Fail> {
     let text = "pass lib.t.a\nfail lib.t.b\n";
     for fail_fast in [false, true] {
-        goes(&rt, rt.alloc(), APART, &way_of(1, fail_fast), "+0-0+1!1", text)?;
-        goes(&rt, rt.alloc(), APART, &way_of(2, fail_fast), "+0+1-0!1", text)?;
+        goes(
+            &rt,
+            rt.alloc(),
+            APART,
+            &way_of(1, fail_fast),
+            "+0-0+1!1",
+            text,
+        )?;
+        goes(
+            &rt,
+            rt.alloc(),
+            APART,
+            &way_of(2, fail_fast),
+            "+0+1-0!1",
+            text,
+        )?;
     }
     Ok(())
 }
@@ -82,10 +96,31 @@ fn a_case_passes_and_a_child_without_results_fails(rt: HostRuntime) -> Result<()
 #[test]
 fn nothing_is_started_after_a_failure_that_ends_all(rt: HostRuntime) -> Result<(), Fail> {
     let skipped = "fail lib.t.a\nskip lib.t.b\n";
-    goes(&rt, rt.alloc(), FIRST_FAILS, &way_of(1, true), "+0!0", skipped)?;
+    goes(
+        &rt,
+        rt.alloc(),
+        FIRST_FAILS,
+        &way_of(1, true),
+        "+0!0",
+        skipped,
+    )?;
     let passed = "fail lib.t.a\npass lib.t.b\n";
-    goes(&rt, rt.alloc(), FIRST_FAILS, &way_of(1, false), "+0!0+1-1", passed)?;
-    goes(&rt, rt.alloc(), FIRST_FAILS, &way_of(2, true), "+0+1!0-1", passed)
+    goes(
+        &rt,
+        rt.alloc(),
+        FIRST_FAILS,
+        &way_of(1, false),
+        "+0!0+1-1",
+        passed,
+    )?;
+    goes(
+        &rt,
+        rt.alloc(),
+        FIRST_FAILS,
+        &way_of(2, true),
+        "+0+1!0-1",
+        passed,
+    )
 }
 
 #[test]
@@ -111,7 +146,14 @@ fn names_have_their_bytes_in_what_is_asked(rt: HostRuntime) -> Result<(), Fail> 
     let text = "pass tb_lib.tb_x.a\npass tb_lib.tb_x.b,c\n";
     goes(&rt, rt.alloc(), COMMA, &way_of(1, false), "+0-0+1-1", text)?;
     let text = "pass tb_lib.tb_counter.reset\npass tb_lib.tb_counter.count & wrap\n";
-    goes(&rt, rt.alloc(), COUNTER, &way_of(64, true), "+0+1-0-1", text)
+    goes(
+        &rt,
+        rt.alloc(),
+        COUNTER,
+        &way_of(64, true),
+        "+0+1-0-1",
+        text,
+    )
 }
 
 #[test]
@@ -125,7 +167,14 @@ fn the_last_case_fails_where_not_all_is_done(rt: HostRuntime) -> Result<(), Fail
 #[test]
 fn verdicts_are_those_of_the_exits(rt: HostRuntime) -> Result<(), Fail> {
     let text = "hellopass lib.w.all\npass lib.s.a\nskip lib.s.b\npass lib.s.c\nend\nfail lib.t.a\n";
-    goes(&rt, rt.alloc(), OTHERS, &way_of(3, false), "+0+1+2-0-1!2", text)
+    goes(
+        &rt,
+        rt.alloc(),
+        OTHERS,
+        &way_of(3, false),
+        "+0+1+2-0-1!2",
+        text,
+    )
 }
 
 #[test]
