@@ -1,20 +1,14 @@
 #!/bin/sh
-# Documents are in plain English: the pages of PLAIN have none of the phrases below and no sentence of more than 35 words. The other
-# pages together have at most LEFT of them, a number that may only fall. Fenced blocks, quotations, links and the pages made of comments
-# in the sources do not count; code between backticks is one word. `sh tests/style.sh --list` prints those of the other pages too. Ends
-# with 0, with 1 if there are too many, and with 77 if python3 is missing.
+# Documents are in plain English: a page has none of the phrases below and no sentence of more than 35 words. Fenced blocks, quotations,
+# links and the pages made of comments in the sources do not count; code between backticks is one word. Ends with 0, with 1 if there is
+# a fault, and with 77 if python3 is missing.
 cd -- "${TOP:-$(dirname -- "$0")/..}" || exit 1
 . tests/support/needs.sh
 needs python3
-exec python3 - "$@" <<'END'
+exec python3 - <<'END'
 import pathlib, re, sys
 
-LEFT = 29  # of all pages that aren't plain yet; lower it as pages become plain
 LONG = 35
-PLAIN = ("README.md", "CHANGES.md", "docs/ASSUMPTIONS.md", "docs/DECISIONS.md", "docs/FORMATS.md", "docs/MEASURE.md", "docs/NOTES.md",
-         "docs/proof/HEADLINE.md", "docs/proof/PROMISES.md", "docs/proof/PROVING.md", "docs/user/CACHE.md", "docs/user/CI.md",
-         "docs/user/CLUSTER.md", "docs/user/COMPILERS.md", "docs/user/EDITORS.md", "docs/user/GHDL.md", "docs/user/MANUAL.md",
-         "docs/user/MOVING.md", "docs/user/VHDL.md")
 MADE = ("docs/proof/DEFINITIONS.md", "docs/proof/CALLS.md")  # by tests/support/proof_pages.py
 PHRASES = re.compile(r"\b(?:" + "|".join((
     # statuses without their noun: say "out of date", "up to date", "unchanged"
@@ -56,12 +50,9 @@ def faults(text):
                 yield f"{count} words: {sentence[:100]} .."
 
 pages = [pathlib.Path("README.md"), pathlib.Path("CHANGES.md"), *sorted(pathlib.Path("docs").rglob("*.md"))]
-found = {str(page): [*faults(page.read_text())] for page in pages if str(page) not in MADE}
-plain = [f"{page}: {fault}" for page in PLAIN for fault in found[page]]
-others = [f"{page}: {fault}" for page in found if page not in PLAIN for fault in found[page]]
-print(*plain, *(others if "--list" in sys.argv else []), sep="\n", end="\n" if plain or "--list" in sys.argv else "")
-print(f"{len(plain)} in the plain pages, {len(others)} in the others, where {LEFT} may be")
-if len(others) < LEFT:
-    print(f"lower LEFT to {len(others)}")
-sys.exit(1 if plain or len(others) > LEFT else 0)
+pages = [page for page in pages if str(page) not in MADE]
+found = [f"{page}: {fault}" for page in pages for fault in faults(page.read_text())]
+print(*found, sep="\n", end="\n" if found else "")
+print(f"{len(found)} in {len(pages)} pages")
+sys.exit(1 if found else 0)
 END
