@@ -1,4 +1,7 @@
 # Read by whoever builds, looks for or packs a program: sums, records, and how a program is put in its place.
+#
+# A program and its record are written beside their place, synced and renamed. They are never overwritten, since a running program starts
+# itself by its path. Of each kind the last three stay, and any that runs.
 
 sum_of() {
     printf '%s\n' "$1" | sha256sum | cut -c 1-64

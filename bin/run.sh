@@ -8,7 +8,7 @@ run_program() {
     [ -n "$VUNIT_RUN_ID" ] || read -r VUNIT_RUN_ID 2>/dev/null </proc/sys/kernel/random/uuid || VUNIT_RUN_ID=$(date +%s%N)-$$
     export VUNIT_RUN_ID
     unset VUNIT_REPORT_RUN
-    # (a write over the limit of a file's size is then a fault that the program names)
+    # (a write over the limit of a file's size is then a fault that the program names; compilers and simulators inherit this)
     trap '' XFSZ
     [ -z "${VUNIT_REPORT-}" ] || exec "$bin/../wrappers/vunit_report" --around "$VUNIT_REPORT" "$@"
     exec "$@"

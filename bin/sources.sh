@@ -3,8 +3,13 @@
 line_feed='
 '
 root=$bin/..
-# The built programs: each lies with its record in a folder that has its kind and the sums of what it was built of in its name. The
-# file current has the name and the stamp of the present one.
+# The built programs: each lies with its record in a folder, whose name has its kind and the beginnings of two sums, of its sources and of
+# what `rt version` prints. The record has both sums whole, size, SHA-256, processor, glibc, and the sum of the script that built it. A
+# program counts only if name and bytes fit its record.
+#
+# The file current has the name of the present program, the line that is printed at each start, and a stamp. A start compares the stamp, and
+# makes the sums only if it differs. Without rt in PATH a program of the same sources still runs. A toolchain replaced without touching its
+# command is not noticed.
 out=$root/out
 current=$out/current
 # What the system starts each built program by: without it none runs.

@@ -12,6 +12,8 @@ a signal that ended it. So it does where nobody reads its standard output any mo
 before it.
 """
 
+# GHDL works in a folder whose files have counted names. So a name in a request becomes no file's name, except for a library's.
+
 import _signal as signal
 import sys, zlib
 

@@ -20,6 +20,8 @@ missing or full; with 128 and the number of a signal that ended GHDL or the prog
 standard output.
 """
 
+# Sources lie in counted folders under the user's paths, which are the paths that GHDL names.
+
 import sys, time
 
 import quick_os as os

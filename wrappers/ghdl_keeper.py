@@ -4,6 +4,9 @@ A start of GHDL takes some 20 ms, and so would the module signal (for its names 
 without it.
 """
 
+# The keeper exists before the folder. It starts GHDL, ends it, and removes the folder when the end of a pipe shows that the wrapper has ended.
+# If the keeper is killed, the wrapper ends its session's processes and removes the folder. SIGKILL of both at once leaves both.
+
 import _signal as signal
 import errno, select, sys, time
 

@@ -12,6 +12,13 @@ nothing of them was there when it was compiled: GHDL wants a library file all th
 A start of GHDL takes some 20 ms, and so would the module re: what every start does is written without it.
 """
 
+# GHDL's library files are text, and with the code generator mcode there are no other files. The lines of an artefact have 0 as the number of
+# a unit, and no time. In a library file, numbers are counted from 11. The time is the last possible one, since GHDL refuses a file older than
+# its dependencies.
+#
+# Library files are written whole. Of the sources only the reachable ones are written: a unit of theirs is named in the file, or in such a
+# source. Too few would be an error of GHDL, and never a pass.
+
 import io, sys, zlib
 
 import quick_os as os
