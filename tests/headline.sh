@@ -1,14 +1,14 @@
 # docs/proof/HEADLINE.md goes through the fields of RunsAs, and names exactly the definitions that they name, and those that these
 # name: at most 60, in the order of specs, each with its file, an example and what would make the claim empty, and with a link
-# into DEFINITIONS.md where it names more. The lists are computed from specs. The field `right` of RunsTests comes last, and what
-# it names itself. Prints what differs. Ends with 0, with 1 where something does, and with 77 where python3 is missing.
+# into DEFINITIONS.md where it names more. The lists are computed from specs. The fields `recorded` and `right` of RunsTests come last, and
+# what they name themselves. Prints what differs. Ends with 0, with 1 where something does, and with 77 where python3 is missing.
 cd -- "${TOP:-$(dirname -- "$0")/..}" || exit 1
 . tests/support/needs.sh
 needs python3
 exec python3 - <<'END'
 import pathlib, re, sys
 
-RUN, TESTS, TEST_FIELD, MOST = ("vunit_top", "Runs", "RunsAs"), ("vunit_top", "Acts", "RunsTests"), "right", 60
+RUN, TESTS, TEST_FIELDS, MOST = ("vunit_top", "Runs", "RunsAs"), ("vunit_top", "Acts", "RunsTests"), ["recorded", "right"], 60
 
 definitions, imports = {}, {}  # by crate, module and name: the text; by crate and module: what each name or prefix is there
 for path in sorted(pathlib.Path("crates").glob("*/specs/*.antt")):
@@ -40,9 +40,9 @@ def named(key, text=None):
     return [one for one in found if one in definitions and one != key]
 
 fields = dict(re.findall(r"^  pub (\w+) :(.*)", definitions[RUN], re.M))
-test_field = re.search(rf"^  pub {TEST_FIELD} :(.*)", definitions[TESTS], re.M)[1]
+test_fields = [re.search(rf"^  pub {name} :(.*)", definitions[TESTS], re.M)[1] for name in TEST_FIELDS]
 # (what objects tell is a premise of each field)
-own = [one for one in named(TESTS, test_field) if one[2] not in ("Disk", "Children", "Object")]
+own = [one for text in test_fields for one in named(TESTS, text) if one[2] not in ("Disk", "Children", "Object")]
 first = list(dict.fromkeys([one for text in [definitions[RUN]] for one in named(RUN, text)] + own))
 second = list(dict.fromkeys(two for one in named(RUN) for two in named(one) if two not in first and two != RUN))
 
@@ -68,8 +68,8 @@ def compare(heading, right):
 
 FIRST = "The definitions that the fields name"
 told = [re.match(r"\*\*`(\w+)`\*\*", item)[1] for item in items("The fields of `RunsAs`")]
-if told != [*fields, TEST_FIELD]:
-    wrong.append(f"the fields are told as {', '.join(told)}, and are {', '.join([*fields, TEST_FIELD])}")
+if told != [*fields, *TEST_FIELDS]:
+    wrong.append(f"the fields are told as {', '.join(told)}, and are {', '.join([*fields, *TEST_FIELDS])}")
 wrong.extend(f"the field {name} doesn't say what would make it empty" for name, item in zip(told, items("The fields of `RunsAs`")) if "*Empty if*" not in item)
 compare(FIRST, first)
 compare("The definitions that these name", second)

@@ -140,6 +140,7 @@ module _ (answer : Request → Exit) (options : GenerateOptions) (edited : Sourc
     unread = λ h. (refl, refl);
     built = λ read is. record { graph = λ some. absurd (some refl); whole_graph = tt; lawful = lawful_none (first_work options read.graph); answered = tt; ended = tt };
     compilers = (refl, refl);
+    unread_again = λ h. refl;
     halted = λ read is h. refl;
     ran = λ read again is other made. nothing_ran answer (second_work options (first_records options read.graph []) again.graph) (setting_of options again (second_work options (first_records options read.graph []) again.graph)) why;
     right = λ read is. nothing_right answer (first_work options read.graph) why;
@@ -155,6 +156,7 @@ module _ (answer : Request → Exit) (options : GenerateOptions) (edited : Sourc
     unread = λ h. (refl, refl);
     built = λ read is. absurd (stops read is);
     compilers = (refl, refl);
+    unread_again = λ h. refl;
     halted = λ read is h. refl;
     ran = λ read again is other made. absurd (stops read is);
     right = λ read is. absurd (stops read is);
@@ -182,6 +184,7 @@ module _ (answer : Request → Exit) (options : GenerateOptions) (edited : Sourc
       unread = λ none. absurd (none read refl);
       built = by_read (λ r. RanBuild answer (first_work options r.graph) (OnOk (fails why)) events) (faulted result why disk events ran);
       compilers = ran.compilers;
+      unread_again = λ h. refl;
       halted = λ other is h. refl;
       ran = λ other again is found made. nothing_ran answer (second_work options (first_records options other.graph events) again.graph) (setting_of options again (second_work options (first_records options other.graph events) again.graph)) why;
       right = by_read (λ r. IsRightBuild answer (first_work options r.graph) (OnOk (fails why)) events) (right_first answer options read.graph (fails why) events (faulted result why disk events ran));
@@ -206,6 +209,7 @@ module _ (answer : Request → Exit) (options : GenerateOptions) (edited : Sourc
         unread = λ none. absurd (none read refl);
         built = by_read (λ r. RanBuild answer (first_work options r.graph) (OnOk (gives said)) events) (ended (gives said));
         compilers = ran.compilers;
+        unread_again = λ h. refl;
         halted = λ other is h. refl;
         ran = λ other again is found made. absurd (false≢true (sym (ap (list_all is_made) (sym ran.statuses) ∙ left) ∙ by_read (λ r. list_all is_made (statuses_of (first_work options r.graph) events) ≡ true → list_all is_made (statuses_of built_first events) ≡ true) (λ h. h) other is made));
         right = by_read (λ r. IsRightBuild answer (first_work options r.graph) (OnOk (gives said)) events) (right_first answer options read.graph (gives said) events (ended (gives said)));
@@ -224,6 +228,7 @@ module _ (answer : Request → Exit) (options : GenerateOptions) (edited : Sourc
         unread = λ none. absurd (none read refl);
         built = by_read (λ r. RanBuild answer (first_work options r.graph) (OnOk result) events) (ended result);
         compilers = ran.compilers;
+        unread_again = next.unread;
         halted = λ other is left. absurd (false≢true (sym (by_read (λ r. list_all is_made (statuses_of (first_work options r.graph) events) ≡ false → list_all is_made (statuses_of built_first events) ≡ false) (λ h. h) other is left) ∙ all_made));
         ran = λ other again is found h. by_read (λ r. RanSecond answer (second_work options (first_records options r.graph events) again.graph) (setting_of options again (second_work options (first_records options r.graph events) again.graph)) (OnOk result) later) (next.ran again found) other is;
         right = by_read (λ r. IsRightBuild answer (first_work options r.graph) (OnOk result) events) (right_first answer options read.graph result events (ended result));

@@ -90,8 +90,8 @@ pub record RanEdited (answer : Request → Exit) (options : GenerateOptions) (ed
   pub says : IfOk result (λ said. said ≡ second_said options first records edited events)
 
 -- What was done with the generated project, by what its sources say before their edit and after it. The first part is a build
--- over no record. The second comes only where all files of the first are made: a build and its tests over the records of the
--- ends of the first. Both are right. Where there is no fault, what is said is that of both parts.
+-- over no record. The second comes only where all files of the first are made, and the edited sources give a graph: a build and
+-- its tests over the records of the ends of the first. Both are right. Where there is no fault, what is said is that of both parts.
 pub record RanGenerated (answer : Request → Exit) (options : GenerateOptions) (reading edited : SourceReading) (result : Result GeneratedSaid RunFault) (events : List Event) : Type 0 where
   pub first : List Event
   pub second : List Event
@@ -99,6 +99,7 @@ pub record RanGenerated (answer : Request → Exit) (options : GenerateOptions) 
   pub unread : ((read : ReadProject) → reading ≡ Found read → ⊥) → (first ≡ []) × (second ≡ [])
   pub built : (read : ReadProject) → reading ≡ Found read → RanBuild answer (first_work options read.graph) (OnOk result) first
   pub compilers : (compile_part first ≡ first) × (test_part first ≡ [])
+  pub unread_again : ((again : ReadProject) → edited ≡ Found again → ⊥) → second ≡ []
   pub halted : (read : ReadProject) → reading ≡ Found read → list_all is_made (statuses_of (first_work options read.graph) first) ≡ false → second ≡ []
   pub ran : (read again : ReadProject) → reading ≡ Found read → edited ≡ Found again → list_all is_made (statuses_of (first_work options read.graph) first) ≡ true →
       let work = second_work options (first_records options read.graph first) again.graph in

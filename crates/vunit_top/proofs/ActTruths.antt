@@ -86,6 +86,7 @@ idle_tests tells answer asked result journal moments failures put now report aft
       parted = λ d c. subst (λ (l : List Event). l ≡ compile_part l ++ test_part l) (sym none) refl;
       tested = λ d c.
           subst (λ (l : List Event). HasTested answer asked.order asked.plan (work_over records_in_image asked.order moments.now) (compile_part l) (test_part l)) (sym none) (record { graph = λ some. absurd (some refl); made = λ some. absurd (some refl); lawful = lawful; answered = tt });
+      recorded = λ d c some. absurd (some (ap test_part none));
       right = λ d c faithful. subst (λ (l : List Event). AreRightTests answer asked.order asked.plan (test_part l)) (sym none) (lawful_right answer asked.order asked.plan [] (no_tests (clean_setting answer asked.order asked.plan)));
       whole = λ d c is. absurd (ended is);
       says = λ d c o. says o;

@@ -1,11 +1,15 @@
 -- What a run with tests did and said, from its build and its tests.
 use Rattle.std.proofs.Common.{◌≡◌, ℕ, Bool, true, false, List, [], ◌∷◌, ◌++◌, Option, Some, None, Result, Ok, Err, refl, sym, ap, subst, ◌∙◌, arith}
-use Rattle.std.specs.Prelude.{if◌then◌else◌, IfOk}
+use Rattle.std.specs.Prelude.{◌<◌, if◌then◌else◌, IfOk, OnOk, is_some, length, map, slice_get}
 use Rattle.std.specs.List.{list_all, list_any}
 use Rattle.std.proofs.lemmas.Bool.{cond-true, cond-false, false≢true}
+use Rattle.std.proofs.lemmas.Option.{slice_get-get_or, slice_get-map}
+use Rattle.std.specs.Option.{option_map}
 use Rattle.base.specs.declared.child.MaybeText.{MaybeText}
 use Rattle.base.specs.declared.child.MaybeText.TheVariants.{Given, Nothing}
 use Rattle.base.specs.declared.graph.Entry.{Entry}
+use Rattle.base.specs.PresentGraph.{below}
+use Rattle.base.proofs.Below.{length-below, get_or-below}
 use Rattle.base.specs.declared.child.Request.{Request}
 use Rattle.base.specs.declared.child.Exit.{Exit}
 use Rattle.base.specs.declared.child.Event.{Event}
@@ -14,17 +18,19 @@ use Rattle.run_spec.specs.declared.statuses.FileStatus.TheVariants as status
 use Rattle.base_outcomes.specs.declared.outcome.Outcome.{Outcome}
 use Rattle.base_outcomes.specs.declared.outcome.Outcome.TheVariants as outcome
 use Rattle.outside.specs.Disks.{Moments, AreSound, Rests, added_since, reads_of}
-use Rattle.run_spec.specs.ChildJournal.{Work, since}
+use Rattle.run_spec.specs.ChildJournal.{Work, artefact_after, progress_of, since}
 use Rattle.run_spec.specs.JournalParts.{compile_part, test_part}
 use Rattle.run_spec.specs.Commits.{commits}
 use Rattle.run_spec.specs.Faithful.{IsFaithfulDisk}
-use Rattle.run_spec.specs.Statuses.{statuses_of, is_refused}
+use Rattle.run_spec.specs.Statuses.{statuses_of, status_at, status_of, is_refused}
 use Rattle.run_spec.proofs.Parts.{build_parts}
 use Rattle.run_spec.specs.Histories.{ProgramRun, work_over}
 use Rattle.outside.specs.Disks.{DiskState}
 use Rattle.outside.specs.FaultCounts.{BuildFaultCounts, NoBuildCountFell, RunFaultCounts}
 use Rattle.run_spec.specs.Faults.{Explains}
+use Rattle.run_build.specs.Orders.{IsDurablyRecorded}
 use Rattle.run_build.specs.Ran.{is_made}
+use Rattle.run_build.proofs.BorrowedFiles.{made_at}
 use Rattle.run_spec.specs.declared.fault.RunFault.{RunFault}
 use Rattle.run_spec.specs.declared.fault.RunFault.TheVariants as fault
 use Rattle.vhdl_spec.specs.Scans.{Finding}
@@ -59,6 +65,26 @@ made_refuses_none (status.Compiled ∷ statuses) made = made_refuses_none status
 made_refuses_none (status.Refused code output ∷ statuses) made = absurd (false≢true made)
 made_refuses_none (status.Skipped ∷ statuses) made = absurd (false≢true made)
 made_refuses_none (status.Left ∷ statuses) made = absurd (false≢true made)
+
+-- a file that is made has an artefact
+made_has : (keep_going : Bool) (exit : Option Exit) (artefact : Option (List ℕ)) → is_made (status_of keep_going exit artefact) ≡ true → is_some artefact ≡ true
+made_has keep_going exit (Some artefact) made = refl
+made_has keep_going (Some exit) None made = absurd (false≢true made)
+made_has true None None made = absurd (false≢true made)
+made_has false None None made = absurd (false≢true made)
+
+-- the status of a file among those of all files
+status_in : (status : ℕ → FileStatus) (count position : ℕ) → position < count → slice_get (map status (below count)) position ≡ Some (status position)
+status_in status count position inside =
+    slice_get-map status (below count) position
+    ∙ ap (option_map status) (slice_get-get_or (below count) position 0 (subst (λ (n : ℕ). position < n) (sym (length-below count)) inside) ∙ ap (λ (p : ℕ). Some p) (get_or-below count position 0 inside))
+
+-- where all files are made, each has an artefact
+all_have : (work : Work) (events : List Event) → list_all is_made (statuses_of work events) ≡ true → (position : ℕ) → position < length work.graph → is_some (artefact_after work events position) ≡ true
+all_have work events made position inside =
+    let ends = (progress_of work events).ends in
+    made_has work.keep_going _ (artefact_after work events position)
+    (made_at (statuses_of work events) position (status_at work ends position) made (status_in (status_at work ends) (length work.graph) position inside))
 
 -- what is said of tests is what became of them, where all files are made
 ends_said : (setting : TestSetting) (made : Bool) (tests : Option TestEnd) (events : List Event) → SaysTests setting made tests events → tests ≡ (if made then Some (record { runs = test_ends setting events }) else None)
@@ -202,6 +228,18 @@ module _ (tells : Object → Type 0) (answer : Request → Exit) (asked : Testin
     has_tested : HasTested answer asked.order asked.plan built (compile_part events) (test_part events)
     has_tested = moved (λ c t. HasTested answer asked.order asked.plan built c t) here
 
+    -- tests are started only after a build without a fault, by which each file that is made is recorded
+    are_recorded : (test_part events ≡ [] → ⊥) → (position : ℕ) → position < length asked.order.graph → IsDurablyRecorded records_in_image after.moments.now asked.order.graph position
+    are_recorded some position inside = by_build over.build refl where
+      started : over.tests ≡ [] → ⊥
+      started none = some (over.simulators ∙ none)
+
+      by_build : (build : Result (List FileStatus) RunFault) → over.build ≡ build → IsDurablyRecorded records_in_image after.moments.now asked.order.graph position
+      by_build (Err why) is = absurd (started (over.stops why is).1)
+      by_build (Ok statuses) is =
+          (subst (λ (r : Result (List FileStatus) RunFault). OnOk r ((k : ℕ) → k < length asked.order.graph → is_some (artefact_after built over.compiled k) ≡ true → IsDurablyRecorded records_in_image after.moments.now asked.order.graph k)) is over.builds.recorded)
+          position inside (all_have built over.compiled (over.made started) position inside)
+
     are_right : IsFaithfulDisk answer records_in_image before.moments.now → AreRightTests answer asked.order asked.plan (test_part events)
     are_right faithful =
         moved (λ c t. AreRightTests answer asked.order asked.plan t)
@@ -235,6 +273,7 @@ module _ (tells : Object → Type 0) (answer : Request → Exit) (asked : Testin
   tests_ended tested over result says answers writes = record {
     parted = λ d c. parts (Ok tested) (over d c);
     tested = λ d c. has_tested (Ok tested) (over d c);
+    recorded = λ d c. are_recorded (Ok tested) (over d c);
     right = λ d c. are_right (Ok tested) (over d c);
     whole = λ d c ended. are_whole tested (over d c);
     says = λ d c o. subst (λ (s : RunSaid). SaysRun result (plain_run s) before.put after.put) (same_said tested (over d c)) (says o);
@@ -246,6 +285,7 @@ module _ (tells : Object → Type 0) (answer : Request → Exit) (asked : Testin
   tests_faulted why over result is put report = record {
     parted = λ d c. parts (Err why) (over d c);
     tested = λ d c. has_tested (Err why) (over d c);
+    recorded = λ d c. are_recorded (Err why) (over d c);
     right = λ d c. are_right (Err why) (over d c);
     whole = λ d c ended. absurd (never_ended why (subst HasEnded is ended));
     says = λ d c o. rw (is, put) (nothing_put why (plain_run (said_between asked before after)) before.put);

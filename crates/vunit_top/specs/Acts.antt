@@ -1,5 +1,5 @@
 -- What a run did with its objects and said, by what words and sources say is to be done: one record, which each call hands on.
-use Rattle.std.specs.Prelude.{◌≡◌, ℕ, true, if◌then◌else◌, List, [], ◌++◌, Option, Some, None}
+use Rattle.std.specs.Prelude.{◌≡◌, ℕ, ◌<◌, true, if◌then◌else◌, List, [], ◌++◌, length, Option, Some, None}
 use Rattle.std.specs.List.{list_all}
 use Rattle.base.specs.declared.child.Request.{Request}
 use Rattle.base.specs.declared.child.Exit.{Exit}
@@ -14,6 +14,7 @@ use Rattle.run_spec.specs.JournalParts.{compile_part, test_part}
 use Rattle.run_spec.specs.Faithful.{IsFaithfulDisk}
 use Rattle.run_spec.specs.Statuses.{statuses_of}
 use Rattle.report.specs.Outcomes.{build_outcome}
+use Rattle.run_build.specs.Orders.{IsDurablyRecorded}
 use Rattle.run_build.specs.Ran.{is_made}
 use Rattle.testbench_runs.specs.declared.ends.TestEnd.{TestEnd}
 use Rattle.run_spec.specs.TestJournal.{TestSetting, IsWholeTests}
@@ -86,12 +87,14 @@ said_between asked before after = run_said asked.warnings asked.order.graph (sta
 
 -- What a run with tests did and said between two moments, besides its build. All events of compilers come before those of
 -- tests. These are lawful runs of the plan over exactly what was built, none where a file isn't made, each end the answer to
--- its start; and they are whole where the run has ended and all files are made. From a disk of true records each start of a
+-- its start; and they are whole where the run has ended and all files are made. On every answer, where a test was started, each
+-- file has a record of its present view in whatever a stop can leave at the end. From a disk of true records each start of a
 -- test is over the libraries of a clean build. The text is that of statuses, verdicts and outputs, and so are the answer and the
 -- report, which is written last.
 pub record RunsTests (tells : Object → Type 0) (answer : Request → Exit) (asked : Testing) (result : Outcome) (before after : Seen) : Type 0 where
   pub parted : tells Disk → tells Children → since before.journal after.journal ≡ compile_part (since before.journal after.journal) ++ tests_since before after
   pub tested : tells Disk → tells Children → HasTested answer asked.order asked.plan (work_over records_in_image asked.order before.moments.now) (compile_part (since before.journal after.journal)) (tests_since before after)
+  pub recorded : tells Disk → tells Children → (tests_since before after ≡ [] → ⊥) → (position : ℕ) → position < length asked.order.graph → IsDurablyRecorded records_in_image after.moments.now asked.order.graph position
   pub right : tells Disk → tells Children → IsFaithfulDisk answer records_in_image before.moments.now → AreRightTests answer asked.order asked.plan (tests_since before after)
   pub whole : tells Disk → tells Children → HasEnded result → list_all is_made (statuses_between asked.order before after) ≡ true → IsWholeTests (setting_between asked before after) (tests_since before after)
   pub says : tells Disk → tells Children → tells Out → SaysRun result (plain_run (said_between asked before after)) before.put after.put
