@@ -1,12 +1,11 @@
 -- What was built where all files are made are the libraries of a clean build.
-use Rattle.std.proofs.Common.{◌≡◌, ℕ, ◌<◌, Bool, true, false, List, [], length, get_or, Option, Some, None, Result, Ok, Err, refl, sym, ap, subst, ◌∙◌}
+use Rattle.std.proofs.Common.{◌≡◌, ℕ, ◌<◌, Bool, true, false, List, [], length, Option, Some, None, Result, refl, sym, ap, subst, ◌∙◌}
 use Rattle.std.specs.Prelude.{slice_get}
 use Rattle.std.specs.Option.{option_map}
-use Rattle.std.specs.List.{filter_map, list_all}
+use Rattle.std.specs.List.{list_all}
 use Rattle.std.proofs.lemmas.Bool.{false≢true}
 use Rattle.std.proofs.lemmas.Option.{slice_get-get_or, slice_get-map}
 use Rattle.base.specs.declared.graph.Entry.{Entry}
-use Rattle.base.specs.declared.graph.BuiltFile.{BuiltFile}
 use Rattle.base.specs.declared.child.Request.{Request}
 use Rattle.base.specs.declared.child.Exit.{Exit}
 use Rattle.base.specs.declared.child.Event.{Event}
@@ -24,7 +23,7 @@ use Rattle.run_spec.specs.Statuses.{status_of, status_at, statuses_of}
 use Rattle.run_laws.proofs.CleanRanks.{filter_map-same}
 use Rattle.run_laws.proofs.CleanSettled.{made_settled}
 use Rattle.run_laws.proofs.JournalSettled.{made_settled_so_far}
-use Rattle.run_spec.specs.Histories.{Order, World, Sources, IsReadable, work_over}
+use Rattle.run_spec.specs.Histories.{Order, World, IsReadable, work_over}
 use Rattle.run_laws.proofs.RightRuns.{run_clean}
 use Rattle.run_build.specs.Ran.{built_by, is_made}
 use Rattle.run_spec.specs.declared.fault.RunFault.{RunFault}

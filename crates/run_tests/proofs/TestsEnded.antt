@@ -1,12 +1,12 @@
 -- Of tests that ended by themselves each run has ended, and its exit is the answer to what is asked for it.
 use Rattle.std.proofs.Common.{◌≡◌, ℕ, ◌<◌, ◌==◌, ◌&&◌, ◌||◌, Bool, true, false, not, ◌⊎◌, cond, List, [], ◌∷◌, ◌++◌, length, Option, Some, None, refl, sym, ap, subst, ◌∙◌, arith, inl, inr}
-use Rattle.std.specs.Prelude.{All, unwrap_or, is_none}
+use Rattle.std.specs.Prelude.{All, map, slice_get, suc, unwrap_or, is_none}
 use Rattle.std.specs.Option.{option_map, option_and_then, option_or}
 use Rattle.std.specs.List.{list_any}
 use Rattle.std.proofs.lemmas.Bool.{cases_Bool, cond-true, cond-false, eqb-true, eq-eqb, and_parts, or_parts, or_cases, or_left, or_right, or_from, false≢true, true≢false}
 use Rattle.std.proofs.lemmas.List.Elements.{All-nil, All-head, All-tail, All-push, All-append, All-weaker}
 use Rattle.std.proofs.lemmas.List.Folds.{list_any-append}
-use Rattle.std.proofs.lemmas.Option.{none-some, same_Some}
+use Rattle.std.proofs.lemmas.Option.{none-some, same_Some, slice_get_within}
 use Rattle.base.specs.declared.child.Request.{Request}
 use Rattle.base.specs.declared.child.Exit.{Exit}
 use Rattle.base.specs.declared.child.Event.{Event}
@@ -17,7 +17,11 @@ use Rattle.run_spec.specs.ChildJournal.{EachAfter, HasFreshTicket, HoldsAnswer, 
 use Rattle.run_spec.proofs.Steps.{started_is}
 use Rattle.run_laws.proofs.JournalProgress.{none_value, first_missing}
 use Rattle.run_spec.specs.TestJournal.{TestSetting, TestExit, TestProgress, test_workload, test_request_at, next_run, passed_at, exits_of, after_test, after_tests, empty_tests, progress_of_tests, test_moves, AreTestsRequested, IsWholeTests}
-use Rattle.run_tests.specs.Results.{run_exit}
+use Rattle.testbench_runs.specs.BenchJobs.{bench_request}
+use Rattle.testbench_runs.specs.declared.runs.TestRun.{TestRun}
+use Rattle.testbench_runs.specs.declared.ends.RunEnd.{RunEnd}
+use Rattle.testbench_runs.specs.Verdicts.{ended_run}
+use Rattle.run_tests.specs.Results.{run_exit, run_end, run_ends, test_ends, steady_ends}
 use Rattle.run_tests.proofs.Answering.{still_more, all_left}
 
 -- the run at a position runs, or has ended
@@ -42,6 +46,13 @@ record AreInStep (answer : Request → Exit) (setting : TestSetting) (before : L
   taken : All (λ position. (runs_at progress.schedule.running position || has_exit progress.ends position) ≡ true) progress.schedule.taken
   ended : All (λ end. has_exit progress.ends end.position ≡ true) progress.schedule.ended
   goes_on : progress.schedule.halted ≡ false
+
+-- what became of runs that each have an exit
+ends_by_run : (exit_of : ℕ → Option Exit) (exit_by : TestRun → Exit) (runs : List TestRun) → ((k : ℕ) (run : TestRun) → slice_get runs k ≡ Some run → exit_of k ≡ Some (exit_by run)) → run_ends exit_of runs ≡ map (λ run. ended_run run (exit_by run)) runs
+ends_by_run exit_of exit_by [] each = refl
+ends_by_run exit_of exit_by (run ∷ runs) each =
+    ap (λ (exit : Option Exit). run_end run exit ∷ run_ends (λ k. exit_of (suc k)) runs) (each 0 run refl)
+    ∙ ap (λ (ends : List RunEnd). ended_run run (exit_by run) ∷ ends) (ends_by_run (λ k. exit_of (suc k)) exit_by runs (λ k other found. each (suc k) other found))
 
 -- ## The child of a ticket
 
@@ -263,3 +274,9 @@ module _ (answer : Request → Exit) (setting : TestSetting) (going : setting.pl
     -- the exit of each run is the answer to what is asked for it
     pub exits : (k : ℕ) (request : Request) → k < length setting.plan.runs → test_request_at setting k ≡ Some request → run_exit progress.ends k ≡ Some (answer request)
     exits k request lt asks = exit_is k request asks progress.ends at_end.1.ends (all_ended k lt)
+
+    -- so that what became of the runs depends neither on the order of their ends nor on how many ran at once
+    pub ends_steady : test_ends setting events ≡ steady_ends answer setting.plan setting.built
+    ends_steady =
+        ends_by_run (run_exit progress.ends) (λ run. answer (bench_request run setting.plan.simulator setting.built)) setting.plan.runs
+        (λ k run found. exits k (bench_request run setting.plan.simulator setting.built) (slice_get_within setting.plan.runs k run found) (ap (option_map (λ r. bench_request r setting.plan.simulator setting.built)) found))

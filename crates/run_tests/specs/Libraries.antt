@@ -1,5 +1,5 @@
 -- The libraries that a clean build makes of a graph.
-use Rattle.std.specs.Prelude.{ℕ, List, length, slice_get}
+use Rattle.std.specs.Prelude.{List, length, slice_get}
 use Rattle.std.specs.List.{filter_map}
 use Rattle.base.specs.declared.graph.Entry.{Entry}
 use Rattle.base.specs.declared.graph.BuiltFile.{BuiltFile}

@@ -1,12 +1,15 @@
 -- What became of runs of tests, by what has happened.
-use Rattle.std.specs.Prelude.{ℕ, suc, ◌==◌, if◌then◌else◌, List, [], ◌∷◌, Option, Some, None}
+use Rattle.std.specs.Prelude.{ℕ, suc, ◌==◌, if◌then◌else◌, List, [], ◌∷◌, map, Option, Some, None}
 use Rattle.std.specs.Option.{option_or}
+use Rattle.base.specs.declared.child.Request.{Request}
 use Rattle.base.specs.declared.child.Exit.{Exit}
 use Rattle.base.specs.declared.child.Event.{Event}
+use Rattle.base.specs.declared.graph.BuiltFile.{BuiltFile}
+use Rattle.testbench_runs.specs.BenchJobs.{bench_request}
 use Rattle.testbench_runs.specs.declared.runs.TestRun.{TestRun}
 use Rattle.testbench_runs.specs.declared.ends.RunEnd.{RunEnd}
 use Rattle.testbench_runs.specs.Verdicts.{ended_run, unstarted_run}
-use Rattle.run_spec.specs.TestJournal.{TestSetting, TestExit, progress_of_tests}
+use Rattle.run_spec.specs.TestJournal.{TestPlan, TestSetting, TestExit, progress_of_tests}
 
 -- the exit of the run at a position, which ends at most once
 unfoldable pub run_exit : List TestExit → ℕ → Option Exit
@@ -26,3 +29,7 @@ run_ends exit_of (run ∷ runs) = run_end run (exit_of 0) ∷ run_ends (λ posit
 -- what became of the runs of a setting, in their order
 abbrev pub test_ends : TestSetting → List Event → List RunEnd
 test_ends setting events = run_ends (run_exit (progress_of_tests setting events).ends) setting.plan.runs
+
+-- what becomes of the runs of a plan over these files, where each exit is the answer to the request of its run
+abbrev pub steady_ends : (Request → Exit) → TestPlan → List BuiltFile → List RunEnd
+steady_ends answer plan built = map (λ run. ended_run run (answer (bench_request run plan.simulator built))) plan.runs

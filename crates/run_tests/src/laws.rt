@@ -1,6 +1,6 @@
-//! Laws of what tests start over, as a function with an empty body: a caller cites one by calling it.
+//! Laws of what tests start over and of how they end, as functions with an empty body: a caller cites one by calling it.
 
-ghost use Rattle.std.specs.Prelude.{◌≡◌, [], true, Bool, List, Result};
+ghost use Rattle.std.specs.Prelude.{◌≡◌, [], true, false, Bool, List, Result};
 ghost use Rattle.std.specs.List.{list_all};
 ghost use Rattle.base.specs.declared.child.Request.{Request};
 ghost use Rattle.base.specs.declared.child.Exit.{Exit};
@@ -15,10 +15,11 @@ ghost use Rattle.run_spec.specs.Statuses.{statuses_of};
 ghost use Rattle.run_spec.specs.Histories.{Order, IsReadable, work_over};
 ghost use Rattle.run_build.specs.Ran.{built_by, is_made};
 ghost use Rattle.run_spec.specs.declared.fault.RunFault.{RunFault};
-ghost use Rattle.run_spec.specs.TestJournal.{TestPlan};
+ghost use Rattle.run_spec.specs.TestJournal.{TestPlan, TestSetting, IsWholeTests};
 ghost use Rattle.run_tests.specs.declared.build_and_test.Tested.{Tested};
 ghost use Rattle.run_tests.specs.Tested.{TestsOver, setting_after};
 ghost use Rattle.run_tests.specs.Libraries.{libraries};
+ghost use Rattle.run_tests.specs.Results.{test_ends, steady_ends};
 
 /// What holds of the files that tests start over.
 pub fn laws_of_libraries()
@@ -39,4 +40,12 @@ pub fn laws_of_libraries()
         (over.tests ≡ [] → ⊥) →
         (setting_after order plan (work_over records_of order old.now) over.compiled).built
         ≡ libraries answer order.graph }
+{}
+
+/// What holds of the ends of tests that ended by themselves, without `--fail-fast`.
+pub fn laws_of_test_ends()
+    // What becomes of each run is that of the answer to its request, whatever the order of ends, and however many ran at once.
+    ensures { (answer : Request → Exit) (setting : TestSetting) (events : List Event) →
+        setting.plan.fail_fast ≡ false → IsWholeTests setting events → Answered answer events →
+        test_ends setting events ≡ steady_ends answer setting.plan setting.built }
 {}

@@ -89,6 +89,7 @@ idle_tests tells answer asked result journal moments failures put now report aft
       recorded = λ d c some. absurd (some (ap test_part none));
       right = λ d c faithful. subst (λ (l : List Event). AreRightTests answer asked.order asked.plan (test_part l)) (sym none) (lawful_right answer asked.order asked.plan [] (no_tests (clean_setting answer asked.order asked.plan)));
       whole = λ d c is. absurd (ended is);
+      steady = λ d c is. absurd (ended is);
       says = λ d c o. says o;
       answers = λ d c said. absurd (ended (said_ended result said));
       writes = λ d c w. writes w;

@@ -45,6 +45,7 @@ use Rattle.run_tests.specs.Tested.{SaysTests, TestsOver, setting_after}
 use Rattle.run_tests.specs.Histories.{HasTested}
 use Rattle.run_tests.specs.Rights.{AreRightTests}
 use Rattle.run_tests.proofs.TestedRights.{tests_right}
+use Rattle.run_tests.proofs.TestsEnded.{ends_steady}
 use Rattle.report.specs.declared.said.RunSaid.{RunSaid}
 use Rattle.report.specs.declared.said.TestWords.{TestWords}
 use Rattle.report.specs.Said.{run_said}
@@ -276,6 +277,7 @@ module _ (tells : Object → Type 0) (answer : Request → Exit) (asked : Testin
     recorded = λ d c. are_recorded (Ok tested) (over d c);
     right = λ d c. are_right (Ok tested) (over d c);
     whole = λ d c ended. are_whole tested (over d c);
+    steady = λ d c ended going made. ends_steady answer (setting_between asked before after) going (tests_since before after) (are_whole tested (over d c) made) ((has_tested (Ok tested) (over d c)).answered);
     says = λ d c o. subst (λ (s : RunSaid). SaysRun result (plain_run s) before.put after.put) (same_said tested (over d c)) (says o);
     answers = λ d c. subst (λ (s : RunSaid). IsSaid result → result ≡ s.outcome) (same_said tested (over d c)) answers;
     writes = λ d c w. subst (λ (s : RunSaid). WritesReport asked.report s.report result before.report after.report) (same_said tested (over d c)) (writes w);
@@ -288,6 +290,7 @@ module _ (tells : Object → Type 0) (answer : Request → Exit) (asked : Testin
     recorded = λ d c. are_recorded (Err why) (over d c);
     right = λ d c. are_right (Err why) (over d c);
     whole = λ d c ended. absurd (never_ended why (subst HasEnded is ended));
+    steady = λ d c ended. absurd (never_ended why (subst HasEnded is ended));
     says = λ d c o. rw (is, put) (nothing_put why (plain_run (said_between asked before after)) before.put);
     answers = λ d c said. absurd (never_said why (subst IsSaid is said));
     writes = λ d c w. rw (is, report) (nothing_written why asked.report (said_between asked before after).report before.report);

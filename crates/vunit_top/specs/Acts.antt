@@ -1,5 +1,5 @@
 -- What a run did with its objects and said, by what words and sources say is to be done: one record, which each call hands on.
-use Rattle.std.specs.Prelude.{◌≡◌, ℕ, ◌<◌, true, if◌then◌else◌, List, [], ◌++◌, length, Option, Some, None}
+use Rattle.std.specs.Prelude.{◌≡◌, ℕ, ◌<◌, true, false, if◌then◌else◌, List, [], ◌++◌, length, Option, Some, None}
 use Rattle.std.specs.List.{list_all}
 use Rattle.base.specs.declared.child.Request.{Request}
 use Rattle.base.specs.declared.child.Exit.{Exit}
@@ -18,7 +18,7 @@ use Rattle.run_build.specs.Orders.{IsDurablyRecorded}
 use Rattle.run_build.specs.Ran.{is_made}
 use Rattle.testbench_runs.specs.declared.ends.TestEnd.{TestEnd}
 use Rattle.run_spec.specs.TestJournal.{TestSetting, IsWholeTests}
-use Rattle.run_tests.specs.Results.{test_ends}
+use Rattle.run_tests.specs.Results.{test_ends, steady_ends}
 use Rattle.run_tests.specs.Tested.{setting_after}
 use Rattle.run_tests.specs.Histories.{HasTested}
 use Rattle.run_tests.specs.Rights.{AreRightTests}
@@ -88,7 +88,8 @@ said_between asked before after = run_said asked.warnings asked.order.graph (sta
 -- What a run with tests did and said between two moments, besides its build. All events of compilers come before those of
 -- tests. These are lawful runs of the plan over exactly what was built, none where a file isn't made, each end the answer to
 -- its start; and they are whole where the run has ended and all files are made. On every answer, where a test was started, each
--- file has a record of its present view in whatever a stop can leave at the end. From a disk of true records each start of a
+-- file has a record of its present view in whatever a stop can leave at the end. Where they are whole, without `--fail-fast`, the
+-- ends are those of the answers to their requests, whatever the order in which they came. From a disk of true records each start of a
 -- test is over the libraries of a clean build. The text is that of statuses, verdicts and outputs, and so are the answer and the
 -- report, which is written last.
 pub record RunsTests (tells : Object → Type 0) (answer : Request → Exit) (asked : Testing) (result : Outcome) (before after : Seen) : Type 0 where
@@ -97,6 +98,8 @@ pub record RunsTests (tells : Object → Type 0) (answer : Request → Exit) (as
   pub recorded : tells Disk → tells Children → (tests_since before after ≡ [] → ⊥) → (position : ℕ) → position < length asked.order.graph → IsDurablyRecorded records_in_image after.moments.now asked.order.graph position
   pub right : tells Disk → tells Children → IsFaithfulDisk answer records_in_image before.moments.now → AreRightTests answer asked.order asked.plan (tests_since before after)
   pub whole : tells Disk → tells Children → HasEnded result → list_all is_made (statuses_between asked.order before after) ≡ true → IsWholeTests (setting_between asked before after) (tests_since before after)
+  pub steady : tells Disk → tells Children → HasEnded result → asked.plan.fail_fast ≡ false → list_all is_made (statuses_between asked.order before after) ≡ true →
+      test_ends (setting_between asked before after) (tests_since before after) ≡ steady_ends answer asked.plan (setting_between asked before after).built
   pub says : tells Disk → tells Children → tells Out → SaysRun result (plain_run (said_between asked before after)) before.put after.put
   pub answers : tells Disk → tells Children → IsSaid result → result ≡ (said_between asked before after).outcome
   pub writes : tells Disk → tells Children → tells Reports → WritesReport asked.report (said_between asked before after).report result before.report after.report
