@@ -106,17 +106,18 @@ module _ (tells same : Object → Type 0) (scan : List ℕ → Finding) (answer 
   -- a run that leaves disk and children as they are
   pub acts_idle : (r : Reading) (words : List (List ℕ)) (result : Outcome) (journal : List Event) (moments : Moments) → AreSound moments → (failures : ℕ) (put now : List ℕ) (report after : List ℕ → Option (List ℕ)) →
       (HasEnded result → order_of r ≡ None) → same Disk → same Children → (report_path_of r ≡ Nothing → same Reports) → ((path text : List ℕ) → r ≡ Exports path text → same Out) →
-      (tells Out → (what : Said) → plain_said r ≡ Some what → Says result what put now) → (tells Out → (order : Order) (warnings : List ℕ) → r ≡ Builds order warnings → (what : Said) → Says result what put now) →
+      (tells Out → (what : Said) → plain_said r ≡ Some what → Says result what put now) → ((what : Said) → plain_said r ≡ Some what → IsSaid result → result ≡ what.outcome) → (tells Out → (order : Order) (warnings : List ℕ) → r ≡ Builds order warnings → (what : Said) → Says result what put now) →
       (tells Reports → (path text : List ℕ) → r ≡ Exports path text → Writes result path text report after) →
       (tells Out → (asked : Testing) → r ≡ Runs asked → (what : Said) → SaysRun result what put now) →
       (tells Reports → (asked : Testing) → r ≡ Runs asked → (said : Option (List ℕ)) → WritesReport asked.report said result report after) →
       Acts tells same scan answer r words result (seen journal moments failures put report) (seen journal moments failures now after)
-  acts_idle r words result journal moments sound failures put now report after unordered disk children reports out plain build writes says_run writes_run = record {
+  acts_idle r words result journal moments sound failures put now report after unordered disk children reports out plain answered build writes says_run writes_run = record {
     ran = λ d c. runs_idle scan answer r words result (has_risen failures failures) journal moments sound unordered;
     untouched = λ none. (disk, children);
     unreported = reports;
     silent = out;
     says_plain = plain;
+    answers_plain = answered;
     says_build = λ d c o order warnings is. build o order warnings is (build_said warnings order.graph (statuses_between order (seen journal moments failures put report) (seen journal moments failures now after)));
     answers = λ d c order warnings is said. absurd (none-some order (sym (unordered (said_ended result said)) ∙ ap order_of is));
     runs = λ asked is.
@@ -129,12 +130,12 @@ module _ (tells same : Object → Type 0) (scan : List ℕ → Finding) (answer 
 
   -- one that says what is said where nothing is built and no report is written
   pub acts_quiet : (r : Reading) (words : List (List ℕ)) (result : Outcome) (journal : List Event) (moments : Moments) → AreSound moments → (failures : ℕ) (put now : List ℕ) (report : List ℕ → Option (List ℕ)) →
-      order_of r ≡ None → report_path_of r ≡ Nothing → same Disk → same Children → same Reports → (tells Out → (what : Said) → plain_said r ≡ Some what → Says result what put now) →
+      order_of r ≡ None → report_path_of r ≡ Nothing → same Disk → same Children → same Reports → (tells Out → (what : Said) → plain_said r ≡ Some what → Says result what put now) → ((what : Said) → plain_said r ≡ Some what → IsSaid result → result ≡ what.outcome) →
       Acts tells same scan answer r words result (seen journal moments failures put report) (seen journal moments failures now report)
-  acts_quiet r words result journal moments sound failures put now report unordered unreported disk children reports plain =
+  acts_quiet r words result journal moments sound failures put now report unordered unreported disk children reports plain answered =
       acts_idle r words result journal moments sound failures put now report report (λ ended. unordered) disk children (λ none. reports)
       (λ path text is. absurd (nothing-given path (sym unreported ∙ ap report_path_of is)))
-      plain
+      plain answered
       (λ o order warnings is. absurd (none-some order (sym unordered ∙ ap order_of is)))
       (λ w path text is. absurd (nothing-given path (sym unreported ∙ ap report_path_of is)))
       (λ o asked is. absurd (none-some asked.order (sym unordered ∙ ap order_of is)))
@@ -144,27 +145,32 @@ module _ (tells same : Object → Type 0) (scan : List ℕ → Finding) (answer 
   says_of result put now None given o what is = absurd (none-some what is)
   says_of result put now (Some mine) given o what is = subst (λ (w : Said). Says result w put now) (some_said mine what is) (given o)
 
+  answers_of : (result : Outcome) (said : Option Said) → IfSome said (λ mine. IsSaid result → result ≡ mine.outcome) → (what : Said) → said ≡ Some what → IsSaid result → result ≡ what.outcome
+  answers_of result None given what is answered = absurd (none-some what is)
+  answers_of result (Some mine) given what is answered = given answered ∙ ap (λ (w : Said). w.outcome) (some_said mine what is)
+
   -- one that says what is said where nothing is built
   pub acts_said : (r : Reading) (words : List (List ℕ)) (result : Outcome) (journal : List Event) (moments : Moments) → AreSound moments → (failures : ℕ) (put now : List ℕ) (report : List ℕ → Option (List ℕ)) →
-      order_of r ≡ None → report_path_of r ≡ Nothing → same Disk → same Children → same Reports → IfSome (plain_said r) (λ mine. tells Out → Says result mine put now) →
+      order_of r ≡ None → report_path_of r ≡ Nothing → same Disk → same Children → same Reports → IfSome (plain_said r) (λ mine. tells Out → Says result mine put now) → IfSome (plain_said r) (λ mine. IsSaid result → result ≡ mine.outcome) →
       Acts tells same scan answer r words result (seen journal moments failures put report) (seen journal moments failures now report)
-  acts_said r words result journal moments sound failures put now report unordered unreported disk children reports says =
-      acts_quiet r words result journal moments sound failures put now report unordered unreported disk children reports (says_of result put now (plain_said r) says)
+  acts_said r words result journal moments sound failures put now report unordered unreported disk children reports says answered =
+      acts_quiet r words result journal moments sound failures put now report unordered unreported disk children reports (says_of result put now (plain_said r) says) (answers_of result (plain_said r) answered)
 
   -- one that is out of memory before it did anything
   pub acts_none : (r : Reading) (words : List (List ℕ)) (journal : List Event) (moments : Moments) → AreSound moments → (failures : ℕ) (put : List ℕ) (report : List ℕ → Option (List ℕ)) → same Disk → same Children → same Out → same Reports →
       Acts tells same scan answer r words outcome.NoMemory (seen journal moments failures put report) (seen journal moments failures put report)
   acts_none r words journal moments sound failures put report disk children out reports =
-      acts_idle r words outcome.NoMemory journal moments sound failures put put report report (λ ended. absurd ended) disk children (λ none. reports) (λ path text is. out) (λ o what is. refl) (λ o order warnings is what. refl) (λ w path text is. refl)
+      acts_idle r words outcome.NoMemory journal moments sound failures put put report report (λ ended. absurd ended) disk children (λ none. reports) (λ path text is. out) (λ o what is. refl) (λ what is said. absurd said) (λ o order warnings is what. refl) (λ w path text is. refl)
       (λ o asked is what. refl) (λ w asked is said. nothing_written fault.NoMemory asked.report said report)
 
   -- one that writes a report
   pub acts_export : (path text : List ℕ) (words : List (List ℕ)) (result : Outcome) (journal : List Event) (moments : Moments) → AreSound moments → (failures : ℕ) (put : List ℕ) (report after : List ℕ → Option (List ℕ)) →
-      same Disk → same Children → same Out → Says result (record { outcome = outcome.Done; text = [] }) put put → (tells Reports → Writes result path text report after) →
+      same Disk → same Children → same Out → Says result (record { outcome = outcome.Done; text = [] }) put put → (IsSaid result → result ≡ outcome.Done) → (tells Reports → Writes result path text report after) →
       Acts tells same scan answer (Exports path text) words result (seen journal moments failures put report) (seen journal moments failures put after)
-  acts_export path text words result journal moments sound failures put report after disk children out says writes =
+  acts_export path text words result journal moments sound failures put report after disk children out says answered writes =
       acts_idle (Exports path text) words result journal moments sound failures put put report after (λ ended. refl) disk children (λ none. absurd (nothing-given path (sym none))) (λ other more is. out)
       (λ o what said. subst (λ (w : Said). Says result w put put) (some_said (record { outcome = outcome.Done; text = [] }) what said) says)
+      (λ what said is. answered is ∙ ap (λ (w : Said). w.outcome) (some_said (record { outcome = outcome.Done; text = [] }) what said))
       (λ o order warnings is. absurd (none-some order (ap order_of is)))
       (λ w other more is. subst (λ (t : List ℕ). Writes result other t report after) (same_text path other text more is) (subst (λ (p : List ℕ). Writes result p text report after) (same_path path other text more is) (writes w)))
       (λ o asked is. absurd (none-some asked.order (ap order_of is)))
@@ -182,6 +188,7 @@ module _ (tells same : Object → Type 0) (scan : List ℕ → Finding) (answer 
     unreported = λ none. reports;
     silent = λ path text is. absurd (nothing-given path (ap report_path_of is));
     says_plain = λ o what said. absurd (none-some what said);
+    answers_plain = λ what said. absurd (none-some what said);
     runs = λ asked is. absurd (plan_none asked (sym (ap plan_in is)));
     untested = λ c none. untested c;
     says_build = λ d c o other more is.
@@ -200,6 +207,7 @@ module _ (tells same : Object → Type 0) (scan : List ℕ → Finding) (answer 
     unreported = λ none. reports (ap is_given none);
     silent = λ path text is. let nothing : ⊥ = cc in absurd nothing;
     says_plain = λ o what said. absurd (none-some what said);
+    answers_plain = λ what said. absurd (none-some what said);
     says_build = λ d c o order warnings is. let nothing : ⊥ = cc in absurd nothing;
     answers = λ d c order warnings is. let nothing : ⊥ = cc in absurd nothing;
     runs = λ other is. subst (λ (a : Testing). RunsTests tells answer a result before after) (same_testing asked other is) runs;

@@ -116,6 +116,7 @@ pub record Acts (tells same : Object → Type 0) (scan : List ℕ → Finding) (
   pub silent : (path text : List ℕ) → r ≡ Exports path text → same Out
   -- the answer and the text that is put: of what isn't a build; and of a build, by its statuses
   pub says_plain : tells Out → (what : Said) → plain_said r ≡ Some what → Says result what before.put after.put
+  pub answers_plain : (what : Said) → plain_said r ≡ Some what → IsSaid result → result ≡ what.outcome
   pub says_build : tells Disk → tells Children → tells Out → (order : Order) (warnings : List ℕ) → r ≡ Builds order warnings →
       Says result (build_said warnings order.graph (statuses_between order before after)) before.put after.put
   pub answers : tells Disk → tells Children → (order : Order) (warnings : List ℕ) → r ≡ Builds order warnings → IsSaid result →

@@ -1,5 +1,5 @@
 -- What a run answers and puts, and what each of its answers comes of.
-use Rattle.std.specs.Prelude.{◌≡◌, ℕ, ◌≤◌, nat_le, false, if◌then◌else◌, List, [], ◌++◌, length, Option, Some, None, unwrap_or}
+use Rattle.std.specs.Prelude.{◌≡◌, ℕ, nat_le, false, if◌then◌else◌, List, [], ◌++◌, length, Option, Some, None, unwrap_or}
 use Rattle.base.specs.declared.graph.Entry.{Entry}
 use Rattle.run_spec.specs.declared.statuses.FileStatus.{FileStatus}
 use Rattle.base_outcomes.specs.declared.outcome.OutsideObject.TheVariants as which

@@ -9,7 +9,7 @@ ghost use Rattle.outside.specs.Reports.{HasWritten};
 ghost use Rattle.outside.specs.FaultCounts.{RunFaultCounts, with_input, with_output, with_reports};
 ghost use Rattle.vhdl_spec.specs.Scans.{Finding, IsScanner};
 ghost use Rattle.vunit_top.specs.Ends.{OutCauses, WritesFirst, WritesResults};
-ghost use Rattle.vunit_top.specs.Said.{Results, Says, IsAccounted, child_results, child_said, exit_said, left_results};
+ghost use Rattle.vunit_top.specs.Said.{Results, Says, IsSaid, IsAccounted, child_results, child_said, exit_said, left_results};
 
 use crate::ends::say;
 use base::{Exit, MaybeText, Text};
@@ -25,6 +25,7 @@ const INPUT_BYTES: u64 = 2147483648;
 
 /// Puts the output of a child, if there is any, and answers its code. What was written before stays.
 fn say_exit<O: Sink>(exit: &Exit, out: &mut O) -> Outcome
+    ensures answer { IsSaid result → result ≡ (exit_said exit.now).outcome }
     ensures said { O.tells →
         Says result (exit_said exit.now) (O.contents out.old) (O.contents out.new) }
     ensures silent { exit.now.output ≡ [] → out.new ≡ out.old }
@@ -45,6 +46,7 @@ fn say_exit<O: Sink>(exit: &Exit, out: &mut O) -> Outcome
 
 /// Answers that an input is no request.
 fn say_bad_request<O: Sink>(alloc: Global, out: &mut O) -> Outcome
+    ensures answer { IsSaid result → result ≡ (exit_said bad_request).outcome }
     ensures said { O.tells →
         Says result (exit_said bad_request) (O.contents out.old) (O.contents out.new) }
     ensures silent { bad_request.output ≡ [] → out.new ≡ out.old }
@@ -59,6 +61,8 @@ fn say_bad_request<O: Sink>(alloc: Global, out: &mut O) -> Outcome
 
 /// Answers the input of a compiler child.
 fn answer_source<O: Sink>(alloc: Global, input: &[u8], out: &mut O) -> Outcome
+    ensures answer { (scan : List ℕ → Finding) → IsScanner scan →
+        IsSaid result → result ≡ (exit_said (analysis scan input.now)).outcome }
     ensures said { (scan : List ℕ → Finding) → IsScanner scan → O.tells →
         Says result (exit_said (analysis scan input.now))
         (O.contents out.old) (O.contents out.new) }
@@ -75,6 +79,8 @@ fn answer_source<O: Sink>(alloc: Global, input: &[u8], out: &mut O) -> Outcome
 
 /// Takes the input of a compiler child, puts what it gives, and answers its code.
 pub fn run_as_compiler<I: Source, O: Sink>(alloc: Global, input: &mut I, out: &mut O) -> Outcome
+    ensures answer { (scan : List ℕ → Finding) → IsScanner scan → I.tells →
+        IsSaid result → result ≡ (child_said (analysis scan) (I.left input.old)).outcome }
     ensures said { (scan : List ℕ → Finding) → IsScanner scan → I.tells → O.tells →
         Says result (child_said (analysis scan) (I.left input.old))
         (O.contents out.old) (O.contents out.new) }
@@ -100,6 +106,7 @@ fn leave_results<O: Sink, R: Reports>(
     out: &mut O,
     reports: &mut R,
 ) -> Outcome
+    ensures answer { IsSaid result → result ≡ (exit_said exit.now).outcome }
     ensures said { O.tells →
         Says result (exit_said exit.now) (O.contents out.old) (O.contents out.new) }
     ensures silent { exit.now.output ≡ [] → out.new ≡ out.old }
@@ -123,6 +130,7 @@ fn leave_exit<O: Sink, R: Reports>(
     out: &mut O,
     reports: &mut R,
 ) -> Outcome
+    ensures answer { IsSaid result → result ≡ (exit_said exit.now).outcome }
     ensures said { O.tells →
         Says result (exit_said exit.now) (O.contents out.old) (O.contents out.new) }
     ensures silent { exit.now.output ≡ [] → out.new ≡ out.old }
@@ -146,6 +154,7 @@ fn answer_task<O: Sink, R: Reports>(
     out: &mut O,
     reports: &mut R,
 ) -> Outcome
+    ensures answer { IsSaid result → result ≡ (exit_said (bench_answer task.now)).outcome }
     ensures said { O.tells →
         Says result (exit_said (bench_answer task.now)) (O.contents out.old) (O.contents out.new) }
     ensures silent { (bench_answer task.now).output ≡ [] → out.new ≡ out.old }
@@ -170,6 +179,7 @@ fn answer_bench<O: Sink, R: Reports>(
     out: &mut O,
     reports: &mut R,
 ) -> Outcome
+    ensures answer { IsSaid result → result ≡ (exit_said (simulation input.now)).outcome }
     ensures said { O.tells →
         Says result (exit_said (simulation input.now)) (O.contents out.old) (O.contents out.new) }
     ensures silent { (simulation input.now).output ≡ [] → out.new ≡ out.old }
@@ -194,6 +204,8 @@ pub fn run_as_simulator<I: Source, O: Sink, R: Reports>(
     out: &mut O,
     reports: &mut R,
 ) -> Outcome
+    ensures answer { I.tells →
+        IsSaid result → result ≡ (child_said simulation (I.left input.old)).outcome }
     ensures said { I.tells → O.tells →
         Says result (child_said simulation (I.left input.old))
         (O.contents out.old) (O.contents out.new) }

@@ -37,6 +37,7 @@ pub fn say<O: Sink>(text: &[u8], answer: Outcome, out: &mut O) -> Outcome
 /// Puts the usage text.
 #[tactic(auto, unfolding(report::specs::Texts::usage_text))]
 pub fn say_usage<O: Sink>(out: &mut O) -> Outcome
+    ensures answer { IsSaid result → result ≡ Outcome.BadWords }
     ensures said { O.tells →
         Says result (record { outcome = Outcome.BadWords; text = usage_text })
         (O.contents out.old) (O.contents out.new) }
@@ -48,6 +49,7 @@ pub fn say_usage<O: Sink>(out: &mut O) -> Outcome
 
 /// Puts the text of a refusal that isn't the compiler's.
 pub fn say_refusal<O: Sink>(alloc: Global, refusal: Refusal, out: &mut O) -> Outcome
+    ensures answer { IsSaid result → result ≡ Outcome.Refused refusal }
     ensures said { O.tells →
         Says result (record { outcome = Outcome.Refused refusal; text = refusal_text refusal })
         (O.contents out.old) (O.contents out.new) }
@@ -62,6 +64,7 @@ pub fn say_refusal<O: Sink>(alloc: Global, refusal: Refusal, out: &mut O) -> Out
 
 /// Puts that a quantity is over this limit.
 pub fn say_limit<O: Sink>(alloc: Global, limit: Limit, number: u64, out: &mut O) -> Outcome
+    ensures answer { IsSaid result → result ≡ Outcome.OverLimit limit }
     ensures said { O.tells →
         Says result (record { outcome = Outcome.OverLimit limit; text = limit_text limit number })
         (O.contents out.old) (O.contents out.new) }
@@ -76,6 +79,7 @@ pub fn say_limit<O: Sink>(alloc: Global, limit: Limit, number: u64, out: &mut O)
 
 /// Puts the files of a graph, in compile order.
 pub fn say_files<O: Sink>(alloc: Global, graph: &Graph, out: &mut O) -> Outcome
+    ensures answer { IsSaid result → result ≡ Outcome.Done }
     ensures said { O.tells →
         Says result (record { outcome = Outcome.Done; text = files_list graph.now })
         (O.contents out.old) (O.contents out.new) }
@@ -90,6 +94,7 @@ pub fn say_files<O: Sink>(alloc: Global, graph: &Graph, out: &mut O) -> Outcome
 
 /// Puts a list of tests.
 pub fn say_tests<O: Sink>(alloc: Global, tests: &Tests, out: &mut O) -> Outcome
+    ensures answer { IsSaid result → result ≡ Outcome.Done }
     ensures said { O.tells →
         Says result (record { outcome = Outcome.Done; text = tests_list tests.now })
         (O.contents out.old) (O.contents out.new) }
@@ -104,6 +109,7 @@ pub fn say_tests<O: Sink>(alloc: Global, tests: &Tests, out: &mut O) -> Outcome
 
 /// Writes a report to the file of a path.
 pub fn write_report<R: Reports>(path: &Text, text: &[u8], reports: &mut R) -> Outcome
+    ensures answer { IsSaid result → result ≡ Outcome.Done }
     ensures said { (put : List ℕ) →
         Says result (record { outcome = Outcome.Done; text = [] }) put put }
     ensures writes { R.tells →

@@ -161,6 +161,7 @@ fn list_chosen<O: Sink>(
     patterns: &TextList,
     out: &mut O,
 ) -> Outcome
+    ensures answer { IsSaid result → result ≡ Outcome.Done }
     ensures said { O.tells →
         Says result
         (record { outcome = Outcome.Done; text = tests_list (chosen patterns.now read.now.tests) })
@@ -191,6 +192,7 @@ fn export_chosen<R: Reports>(
     patterns: &TextList,
     reports: &mut R,
 ) -> Outcome
+    ensures answer { IsSaid result → result ≡ Outcome.Done }
     ensures said { (put : List ℕ) →
         Says result (record { outcome = Outcome.Done; text = [] }) put put }
     ensures writes { R.tells →
@@ -262,6 +264,9 @@ fn say_stop<O: Sink>(alloc: Global, stop: ReadStop, out: &mut O) -> Outcome
     ensures says { O.tells → (task : Task) (found : SourceReading) → LeadsTo found (Err stop) →
         (what : Said) → plain_said (task_reading task found) ≡ Some what →
         Says result what (O.contents out.old) (O.contents out.new) }
+    ensures answers { (task : Task) (found : SourceReading) → LeadsTo found (Err stop) →
+        (what : Said) → plain_said (task_reading task found) ≡ Some what →
+        IsSaid result → result ≡ what.outcome }
     ensures says_build { O.tells → (task : Task) (found : SourceReading) →
         LeadsTo found (Err stop) → (order : Order) (warnings : List ℕ) →
         task_reading task found ≡ Builds order warnings → (what : Said) →
@@ -397,6 +402,8 @@ fn run_setting<T: Tree, D: Disk, P: Procs, O: Sink, R: Reports>(
     ensures says_words { O.tells → (r : Reading) → setting_task setting ≡ Err r →
         (what : Said) → plain_said r ≡ Some what →
         Says result what (O.contents out.old) (O.contents out.new) }
+    ensures answers_words { (r : Reading) → setting_task setting ≡ Err r →
+        (what : Said) → plain_said r ≡ Some what → IsSaid result → result ≡ what.outcome }
     ensures placed { (result ≡ Outcome.OutsideFault OutsideObject.Tree)
         ⊎ (result ≡ Outcome.OutsideFault OutsideObject.Input) →
         (disk.new ≡ disk.old) × (procs.new ≡ procs.old) × (reports.new ≡ reports.old) }
@@ -553,7 +560,21 @@ pub fn run_vunit<I: Source, T: Tree, D: Disk, P: Procs, O: Sink, R: Reports>(
         let statuses = statuses_of (work_over records_in_image order (D.moments disk.old).now) events in
         Says result (build_said warnings order.graph statuses)
         (O.contents out.old) (O.contents out.new) }
-    // The answer of a build is that of its statuses, whatever is told of the output.
+    // The answers of these, whatever is told of the output.
+    ensures answers_compiler { (scan : List ℕ → Finding) → IsScanner scan → I.tells →
+        begins_as_compiler words.now ≡ true → IsSaid result →
+        result ≡ (child_said (analysis scan) (I.left input.old)).outcome }
+    ensures answers_simulator { I.tells → begins_as_compiler words.now ≡ false →
+        begins_as_simulator words.now ≡ true → IsSaid result →
+        result ≡ (child_said simulation (I.left input.old)).outcome }
+    ensures answers_words { (r : Reading) → words_task words.now ≡ Err r →
+        (what : Said) → plain_said r ≡ Some what → IsSaid result → result ≡ what.outcome }
+    ensures answers_plain { (scan : List ℕ → Finding) → IsScanner scan → T.tells →
+        (what : Said) →
+        plain_said (reading scan words.now
+        (record { file = T.file tree.old; listed = T.listed tree.old })) ≡ Some what →
+        IsSaid result → result ≡ what.outcome }
+    // So is the answer of a build, by its statuses.
     ensures answers { (scan : List ℕ → Finding) → IsScanner scan → T.tells → D.tells → P.tells →
         (order : Order) (warnings : List ℕ) →
         reading scan words.now (record { file = T.file tree.old; listed = T.listed tree.old })

@@ -27,3 +27,10 @@ returns-in-Ok-Got-clause-counted g c = λ others. rw c.in-Ok-Got.ensures.cause (
 
 pub returns-in-Ok-Got-clause-placed : goal.returns-in-Ok-Got-clause-placed
 returns-in-Ok-Got-clause-placed g c = λ fault. absurd (no_early (c.answer_bench.ensures.counted no_faults) refl refl fault)
+
+pub returns-in-Ok-Got-clause-answer : goal.returns-in-Ok-Got-clause-answer
+returns-in-Ok-Got-clause-answer g c = λ tells.
+    rw (sym (taken_said (g.I.Source.left c.args.input.now) simulation c.in-Ok-Got.request (sym c.in-Ok-Got.field-0-is ∙ c.in-Ok-Got.ensures.input tells)), sym c.bytes.ensures) c.answer_bench.ensures.answer
+
+pub returns-in-Ok-TooLong-clause-answer : goal.returns-in-Ok-TooLong-clause-answer
+returns-in-Ok-TooLong-clause-answer g c = λ tells. rw (too_long (g.I.Source.left c.args.input.now) simulation (sym c.in-Ok-TooLong.field-0-is ∙ c.in-Ok-TooLong.ensures.input tells)) c.say.ensures.answer

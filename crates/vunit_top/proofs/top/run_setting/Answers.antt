@@ -18,7 +18,7 @@ returns-then-setting-clause-acts g c = λ scan is t words.
     (of_each (c.args.disk.now ≡ c.args.disk.now) (c.args.procs.now ≡ c.args.procs.now) (c.say_limit.new.out ≡ c.args.out.now) (c.args.reports.now ≡ c.args.reports.now))
     scan _ (Over limits.Slots SLOT_LIMIT) words c.say_limit.result (g.P.Procs.journal c.args.procs.now) (g.D.Disk.moments c.args.disk.now) (g.met.D.Disk.sound c.args.disk.now)
     (g.D.Disk.failed_disk_calls c.args.disk.now) (g.O.Sink.contents c.args.out.now) (g.O.Sink.contents c.say_limit.new.out) (g.R.Reports.report c.args.reports.now)
-    refl refl refl refl refl c.say_limit.ensures.said)
+    refl refl refl refl refl c.say_limit.ensures.said c.say_limit.ensures.answer)
 
 pub returns-then-setting-gt0-clause-acts : goal.returns-then-setting-gt0-clause-acts
 returns-then-setting-gt0-clause-acts g c = λ scan is t words.
@@ -28,7 +28,7 @@ returns-then-setting-gt0-clause-acts g c = λ scan is t words.
     (of_each (c.args.disk.now ≡ c.args.disk.now) (c.args.procs.now ≡ c.args.procs.now) (c.say_limit-then-setting-gt0.new.out ≡ c.args.out.now) (c.args.reports.now ≡ c.args.reports.now))
     scan _ (Over limits.Files FILE_LIMIT) words c.say_limit-then-setting-gt0.result (g.P.Procs.journal c.args.procs.now) (g.D.Disk.moments c.args.disk.now) (g.met.D.Disk.sound c.args.disk.now)
     (g.D.Disk.failed_disk_calls c.args.disk.now) (g.O.Sink.contents c.args.out.now) (g.O.Sink.contents c.say_limit-then-setting-gt0.new.out) (g.R.Reports.report c.args.reports.now)
-    refl refl refl refl refl c.say_limit-then-setting-gt0.ensures.said)
+    refl refl refl refl refl c.say_limit-then-setting-gt0.ensures.said c.say_limit-then-setting-gt0.ensures.answer)
 
 pub returns-clause-acts : goal.returns-clause-acts
 returns-clause-acts g c = λ scan is t words.

@@ -43,6 +43,7 @@ returns-in-Err-clause-acts g c = λ scan is t words.
     (c.say_stop.ensures.rests c.args.task found led) refl refl (λ none. refl)
     (c.say_stop.ensures.silent c.args.task found led)
     (λ puts. c.say_stop.ensures.says puts c.args.task found led)
+    (c.say_stop.ensures.answers c.args.task found led)
     (λ puts. c.say_stop.ensures.says_build puts c.args.task found led)
     (λ writes path text exports. c.say_stop.ensures.writes c.args.task found led path text exports (g.R.Reports.report c.args.reports.now))
     (λ puts. c.say_stop.ensures.says_run puts c.args.task found led)

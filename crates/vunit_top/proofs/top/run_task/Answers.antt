@@ -18,7 +18,7 @@ returns-in-ListFiles-clause-acts g c = λ scan words.
     (of_each (c.args.disk.now ≡ c.args.disk.now) (c.args.procs.now ≡ c.args.procs.now) (c.say_files.new.out ≡ c.args.out.now) (c.args.reports.now ≡ c.args.reports.now))
     scan _ (Lists c.args.read.now.graph) words c.say_files.result (g.P.Procs.journal c.args.procs.now) (g.D.Disk.moments c.args.disk.now) (g.met.D.Disk.sound c.args.disk.now)
     (g.D.Disk.failed_disk_calls c.args.disk.now) (g.O.Sink.contents c.args.out.now) (g.O.Sink.contents c.say_files.new.out) (g.R.Reports.report c.args.reports.now)
-    refl refl refl refl refl c.say_files.ensures.said)
+    refl refl refl refl refl c.say_files.ensures.said c.say_files.ensures.answer)
 
 pub returns-in-ListTests-clause-acts : goal.returns-in-ListTests-clause-acts
 returns-in-ListTests-clause-acts g c = λ scan words.
@@ -28,7 +28,7 @@ returns-in-ListTests-clause-acts g c = λ scan words.
     (of_each (c.args.disk.now ≡ c.args.disk.now) (c.args.procs.now ≡ c.args.procs.now) (c.list_chosen.new.out ≡ c.args.out.now) (c.args.reports.now ≡ c.args.reports.now))
     scan _ (ListsTests (chosen c.in-ListTests.query.patterns c.args.read.now.tests)) words c.list_chosen.result (g.P.Procs.journal c.args.procs.now) (g.D.Disk.moments c.args.disk.now) (g.met.D.Disk.sound c.args.disk.now)
     (g.D.Disk.failed_disk_calls c.args.disk.now) (g.O.Sink.contents c.args.out.now) (g.O.Sink.contents c.list_chosen.new.out) (g.R.Reports.report c.args.reports.now)
-    refl refl refl refl refl c.list_chosen.ensures.said)
+    refl refl refl refl refl c.list_chosen.ensures.said c.list_chosen.ensures.answer)
 
 pub returns-in-Export-clause-acts : goal.returns-in-Export-clause-acts
 returns-in-Export-clause-acts g c = λ scan words.
@@ -38,7 +38,7 @@ returns-in-Export-clause-acts g c = λ scan words.
     (of_each (c.args.disk.now ≡ c.args.disk.now) (c.args.procs.now ≡ c.args.procs.now) (c.args.out.now ≡ c.args.out.now) (c.export_chosen.new.reports ≡ c.args.reports.now))
     scan _ c.in-Export.path (export_text c.args.read.now.graph c.args.read.now.project.files (chosen c.in-Export.query.patterns c.args.read.now.tests)) words c.export_chosen.result (g.P.Procs.journal c.args.procs.now) (g.D.Disk.moments c.args.disk.now) (g.met.D.Disk.sound c.args.disk.now)
     (g.D.Disk.failed_disk_calls c.args.disk.now) (g.O.Sink.contents c.args.out.now) (g.R.Reports.report c.args.reports.now) (g.R.Reports.report c.export_chosen.new.reports)
-    refl refl refl (c.export_chosen.ensures.said (g.O.Sink.contents c.args.out.now)) c.export_chosen.ensures.writes)
+    refl refl refl (c.export_chosen.ensures.said (g.O.Sink.contents c.args.out.now)) c.export_chosen.ensures.answer c.export_chosen.ensures.writes)
 
 pub returns-in-Build-clause-acts : goal.returns-in-Build-clause-acts
 returns-in-Build-clause-acts g c = λ scan words.

@@ -48,6 +48,10 @@ pub returns-in-None-clause-says_plain : goal.returns-in-None-clause-says_plain
 returns-in-None-clause-says_plain g c = λ scan is t.
     (acts_by _ _ scan _ (words_task c.args.words.now) (setting_task c.in-Ok.setting) (project_reading scan (g.T.Tree.file c.args.tree.now) (g.T.Tree.listed c.args.tree.now)) (setting_read c.args.words.now (sym c.begins_with.ensures ∙ c.if-begins_with.false) (sym c.begins_with-2.ensures ∙ c.if-begins_with-2.false) c.in-Ok.setting c.in-Ok.ensures.read) (c.run_setting.ensures.acts scan is t c.args.words.now)).says_plain
 
+pub returns-in-None-clause-answers_plain : goal.returns-in-None-clause-answers_plain
+returns-in-None-clause-answers_plain g c = λ scan is t.
+    (acts_by _ _ scan _ (words_task c.args.words.now) (setting_task c.in-Ok.setting) (project_reading scan (g.T.Tree.file c.args.tree.now) (g.T.Tree.listed c.args.tree.now)) (setting_read c.args.words.now (sym c.begins_with.ensures ∙ c.if-begins_with.false) (sym c.begins_with-2.ensures ∙ c.if-begins_with-2.false) c.in-Ok.setting c.in-Ok.ensures.read) (c.run_setting.ensures.acts scan is t c.args.words.now)).answers_plain
+
 pub returns-in-None-clause-says_build : goal.returns-in-None-clause-says_build
 returns-in-None-clause-says_build g c = λ scan is t d p puts.
     (acts_by _ _ scan _ (words_task c.args.words.now) (setting_task c.in-Ok.setting) (project_reading scan (g.T.Tree.file c.args.tree.now) (g.T.Tree.listed c.args.tree.now)) (setting_read c.args.words.now (sym c.begins_with.ensures ∙ c.if-begins_with.false) (sym c.begins_with-2.ensures ∙ c.if-begins_with-2.false) c.in-Ok.setting c.in-Ok.ensures.read) (c.run_setting.ensures.acts scan is t c.args.words.now)).says_build d p puts
@@ -63,6 +67,10 @@ returns-in-None-clause-writes g c = λ scan is t.
 pub returns-in-None-clause-says_words : goal.returns-in-None-clause-says_words
 returns-in-None-clause-says_words g c = λ puts r is what said.
     c.run_setting.ensures.says_words puts r (sym (setting_read c.args.words.now (sym c.begins_with.ensures ∙ c.if-begins_with.false) (sym c.begins_with-2.ensures ∙ c.if-begins_with-2.false) c.in-Ok.setting c.in-Ok.ensures.read) ∙ is) what said
+
+pub returns-in-None-clause-answers_words : goal.returns-in-None-clause-answers_words
+returns-in-None-clause-answers_words g c = λ r is what said.
+    c.run_setting.ensures.answers_words r (sym (setting_read c.args.words.now (sym c.begins_with.ensures ∙ c.if-begins_with.false) (sym c.begins_with-2.ensures ∙ c.if-begins_with-2.false) c.in-Ok.setting c.in-Ok.ensures.read) ∙ is) what said
 
 pub returns-in-None-clause-counted : goal.returns-in-None-clause-counted
 returns-in-None-clause-counted g c = c.run_setting.ensures.counted (run_counts g.I.Source g.T.Tree g.D.Disk g.P.Procs g.O.Sink g.R.Reports c.args.input.now c.args.tree.now c.args.disk.now c.args.procs.now c.args.out.now c.args.reports.now)
@@ -157,8 +165,16 @@ pub returns-in-Some-clause-says_words : goal.returns-in-Some-clause-says_words
 returns-in-Some-clause-says_words g c = λ o r is what said.
     absurd (no_text (words_task c.args.words.now) c.in-Some.options (setting_read c.args.words.now (sym c.begins_with.ensures ∙ c.if-begins_with.false) (sym c.begins_with-2.ensures ∙ c.if-begins_with-2.false) c.in-Ok.setting c.in-Ok.ensures.read ∙ c.in-Some.ensures.0) r is what said)
 
+pub returns-in-Some-clause-answers_words : goal.returns-in-Some-clause-answers_words
+returns-in-Some-clause-answers_words g c = λ r is what said answered.
+    absurd (no_text (words_task c.args.words.now) c.in-Some.options (setting_read c.args.words.now (sym c.begins_with.ensures ∙ c.if-begins_with.false) (sym c.begins_with-2.ensures ∙ c.if-begins_with-2.false) c.in-Ok.setting c.in-Ok.ensures.read ∙ c.in-Some.ensures.0) r is what said)
+
 pub returns-in-Some-clause-says_plain : goal.returns-in-Some-clause-says_plain
 returns-in-Some-clause-says_plain g c = λ scan is t o what said.
+    absurd (no_plain_text (words_task c.args.words.now) c.in-Some.options (setting_read c.args.words.now (sym c.begins_with.ensures ∙ c.if-begins_with.false) (sym c.begins_with-2.ensures ∙ c.if-begins_with-2.false) c.in-Ok.setting c.in-Ok.ensures.read ∙ c.in-Some.ensures.0) (project_reading scan (g.T.Tree.file c.args.tree.now) (g.T.Tree.listed c.args.tree.now)) what said)
+
+pub returns-in-Some-clause-answers_plain : goal.returns-in-Some-clause-answers_plain
+returns-in-Some-clause-answers_plain g c = λ scan is t what said answered.
     absurd (no_plain_text (words_task c.args.words.now) c.in-Some.options (setting_read c.args.words.now (sym c.begins_with.ensures ∙ c.if-begins_with.false) (sym c.begins_with-2.ensures ∙ c.if-begins_with-2.false) c.in-Ok.setting c.in-Ok.ensures.read ∙ c.in-Some.ensures.0) (project_reading scan (g.T.Tree.file c.args.tree.now) (g.T.Tree.listed c.args.tree.now)) what said)
 
 pub returns-in-Some-clause-says_build : goal.returns-in-Some-clause-says_build
