@@ -31,11 +31,11 @@ plant() {
     exit 1
 }
 
-notes=docs/NOTES.md tour=docs/TOUR.md
-plant "$notes: nothing on the way from main calls never_called" $notes '$a - `order` and `never_called`, which the program calls.'
-plant "$notes: nothing on the way from main calls never_called" $notes '$a - Of these the program calls `never_called`.'
-plant "$notes: never_written is no function of the program" $notes '$a - `never_written`, which the program calls.'
-plant "$notes: minimal_graph is called on the way from main" $notes '$a - `minimal_graph`, which tests alone call.'
+decisions=docs/DECISIONS.md tour=docs/TOUR.md
+plant "$decisions: nothing on the way from main calls never_called" $decisions '$a - `order` and `never_called`, which the program calls.'
+plant "$decisions: nothing on the way from main calls never_called" $decisions '$a - Of these the program calls `never_called`.'
+plant "$decisions: never_written is no function of the program" $decisions '$a - `never_written`, which the program calls.'
+plant "$decisions: minimal_graph is called on the way from main" $decisions '$a - `minimal_graph`, which tests alone call.'
 plant "$tour, graph: nothing on the way from main calls never_called" $tour 's/ordering.rt`: `order`/ordering.rt`: `never_called`/'
 plant "$tour, graph: order_graph isn't in order/src/ordering.rt" $tour 's/ordering.rt`: `order`/ordering.rt`: `order_graph`/'
 plant "$tour, graph: graph_of isn't in order/src/ordering.rt" $tour 's/ordering.rt`: `order`/ordering.rt`: `graph_of`/'

@@ -1,5 +1,9 @@
 """The hooks of a run: commands of the user before and after its simulation. docs/user/GHDL.md has what they are told and may do."""
 
+# Why it is so:
+# A failed hook after the simulation removes the results, so every case of the run has failed. By the exit code only the last
+# one would.
+
 import os
 
 from bench_words import AFTER, BEFORE

@@ -11,6 +11,10 @@ it declares. Every tool that asks what a run depends on reads the words by this 
 
 A word of `--in` or of a configuration is strict: the bench has to have the generic."""
 
+# Why it is so:
+# The simulator's words and request contain everything that a run gets, so a tool that keeps verdicts by these keeps one for
+# each configuration. A variable of the environment, or a file that the wrapper looks for, would escape it.
+
 # (Modules that few runs need are imported where they are needed: a start is short.)
 
 # The generics that the runner fills in, and nobody else.

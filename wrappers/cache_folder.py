@@ -12,6 +12,11 @@ so that an entry means the same text in whichever folder it lies. What cannot be
 docs/FORMATS.md has the bytes.
 """
 
+# Why it is so:
+# With a nonce in the name of each text any tool can merge two folders, at worst with equal texts stored twice.
+# Files are made without a name and then linked (O_TMPFILE), so a killed start leaves none. Elsewhere trimming removes what is
+# left.
+
 import os, time
 
 from cache_command import write_all

@@ -8,6 +8,9 @@ them has another size, other times or another inode.
     BYTES                                       the key
 """
 
+# Why it is so:
+# The key has all files of wrappers, since a list of some would be forgotten some day.
+
 import os, time
 
 from run_data import escaped, unescaped

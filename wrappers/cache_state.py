@@ -3,6 +3,10 @@
 It lies in over_cache_UID in TMPDIR, and is trusted only where nobody else may write it. All of it may be lost at any time.
 """
 
+# Why it is so:
+# Keys are remembered for each user on each machine, since they rest on inodes and times. In the folder of the cache another
+# user could inject his own tool's artefacts.
+
 import os, time
 
 from cache_hash import entry_digest

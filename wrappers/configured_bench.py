@@ -9,6 +9,10 @@ so; else there are none, and it ends with 1. It ends with 75 where one of them h
 with the code of the simulator. It ends what it has started where nobody reads its output any more, or vunit_configs has gone.
 """
 
+# Why it is so:
+# The program starts this stand-in, so one proved run compiles, selects, starts and judges. Not a start of the program for
+# each configuration; nor generated benches, which change 'path_name; nor a runner in Python.
+
 import _signal as signal
 import _socket as socket
 import errno, os, select, sys, time

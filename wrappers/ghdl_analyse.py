@@ -12,6 +12,14 @@ a signal that ended it. So it does where nobody reads its standard output any mo
 before it.
 """
 
+# Why it is so:
+# The program drives no tool: this is a compiler of its own, and ghdl_bench a simulator. Not a driver for each tool in the
+# program.
+# The artefact omits comments, since a changed comment would recompile all users. With -fpsl comments have a meaning, and
+# stay.
+# ghdl-llvm and ghdl-gcc are refused by name: an artefact would have to hold an object file, and each bench would be linked
+# anew.
+# An analysis ended by a signal from outside has no answer; ended by any other signal, GHDL crashed over the file.
 # GHDL works in a folder whose files have counted names. So a name in a request becomes no file's name, except for a library's.
 
 import _signal as signal

@@ -20,6 +20,11 @@ missing or full; with 128 and the number of a signal that ended GHDL or the prog
 standard output.
 """
 
+# Why it is so:
+# At each start GHDL reads every named package whole, so most benches get short ones: vunit_lib/everyday.py says how.
+# The seed follows from the name of the run and a word of the project file. With a random seed a recorded pass would say
+# nothing.
+# A signal that ends a simulation gives a failed case.
 # Sources lie in counted folders under the user's paths, which are the paths that GHDL names.
 
 import sys, time

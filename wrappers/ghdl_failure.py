@@ -10,6 +10,10 @@ A log has lines of the bench's loggers, `TIME - LOGGER - LEVEL - MESSAGE`, and w
     /usr/bin/ghdl-mcode:error: simulation failed
 """
 
+# Why it is so:
+# The line with the cause is made of GHDL's output, so it covers an assertion, a range, a crash and VUnit's own packages.
+# Lines of the packages that a bench calls would not.
+
 import os, re
 
 from ghdl_library import as_named, name_of

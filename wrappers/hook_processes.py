@@ -1,6 +1,9 @@
 """What the keeper needs for a hook alone: whatever a user's command has started becomes a child of the keeper when its own
 parent ends, also in a session of its own, and is ended with the command."""
 
+# Why it is so:
+# Orphans become children of the keeper, since a daemon leaves the hook's process group.
+
 import _signal as signal
 import ctypes, os, time
 

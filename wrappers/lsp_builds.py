@@ -1,5 +1,11 @@
 """Compiles the project of an editor and runs its tests, over its folder of links and with a store of its own: one run at a time."""
 
+# Why it is so:
+# Compilations and tests of the server have a store in vunit_out/lsp, a second server in lsp_2. They would contend for the
+# lock of the terminal's store.
+# A save compiles what the editor shows, including other unsaved buffers, so the lines of messages fit the screen.
+# Each change of a source withdraws a verdict `pass`; a verdict `fail` stays, since it vouches for nothing.
+
 import fcntl, os, re, signal
 
 from lsp_client import ERROR, INFORMATION, WARNING, Progress

@@ -1,5 +1,9 @@
 """Frames of the language server protocol: a header with the length of a JSON text in bytes, and that text."""
 
+# Why it is so:
+# It uses Python's standard library: python3-pylsp-jsonrpc accepts any length that a frame names, and does not answer invalid
+# messages.
+
 import json
 
 # Bytes of a header, and of a text: one of the 4 MiB that a source may have, with each letter escaped, and some more.

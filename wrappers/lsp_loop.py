@@ -1,5 +1,8 @@
 """Waits for what a client sends, for programs that run, and for times: one thread, and no processor time while nothing happens."""
 
+# Why it is so:
+# Output is written while the client has room. O_NONBLOCK is never set, since others may share the output.
+
 import errno, os, selectors, signal, subprocess, sys, time, traceback
 
 from vunit_report import end_with_parent

@@ -1,5 +1,9 @@
 """A project in an editor: its buffers, and the runs of vunit_run that say what is wrong in them."""
 
+# Why it is so:
+# A check is -f and, unless that refuses, --export-json: so a refusal is shown before tests are looked for. A change ends a
+# check with SIGKILL, since it has no children and holds no lock.
+
 import json, os, signal
 
 import folder_changes

@@ -1,5 +1,8 @@
 """The methods of the language server, over one project."""
 
+# Why it is so:
+# It links and follows only a folder with a project file, not any folder that an editor has opened, as a home.
+
 import os
 
 from lsp_client import Client, WrongParams, at, needed

@@ -1,5 +1,7 @@
 # Read by the wrappers in sh, which users name and link to: `start` runs the Python module of the same name beside them. It starts
 # the interpreter itself: a python3 that is a script, as the shim of pyenv is, would start some 40 processes for each file.
+# The head of a wrapper is in sh and finds the interpreter, and a module is compiled once: the shims of `env python3` take
+# three times as long as all else.
 
 is_script() {
     IFS= read -r first_line <"$1"

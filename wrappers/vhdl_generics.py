@@ -1,6 +1,9 @@
 """The generic constants that an entity declares, by the tokens of IEEE Std 1076-2008, clause 15, and its interface lists, clause
 6.5. (It is written without the module re, as vhdl_comments.py is.)"""
 
+# Why it is so:
+# Which generics a bench declares is read from its source, since asking GHDL would be one more start.
+
 BLANKS = b" \t\n\v\f\r\xa0"
 IN_NAMES = frozenset(b"ABCDEFGHIJKLMNOPQRSTUVWXYZabcdefghijklmnopqrstuvwxyz0123456789_") | frozenset(range(0xC0, 0x100))
 # What begins an element of a generic clause that is no constant.

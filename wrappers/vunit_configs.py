@@ -6,6 +6,9 @@ The words are those of vunit_run. A test of a bench of the table is named LIBRAR
 and in patterns. docs/user/GHDL.md has the form of the table. It runs what VUNIT_RUN names, or vunit_run, whose status is its own; 1
 is also that of a fault in the table, 2 of wrong words, and 3 of a table that can't be read."""
 
+# Why it is so:
+# The tests come from an export. Names of benches in the text would be guesses.
+
 import json, os, shutil, signal, subprocess, sys
 
 from configuration_plan import Plan

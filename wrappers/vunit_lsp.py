@@ -10,6 +10,10 @@ server. The program is what VUNIT_RUN names; else vunit_run in PATH; else the la
 does, which refuses a project by name, and with 3 where the file can't be written.
 """
 
+# Why it is so:
+# The server runs the program once for each answer, over a folder of links in which buffers are files. So it agrees exactly
+# with a run, and the program needs no mode of its own. A session that holds buffers would spare the scan of unchanged files.
+
 import gc, os, shutil, signal, sys
 
 USAGE = "usage: vunit_lsp [--write-vhdl-ls FILE | --write-hdl-prj FILE]\n"

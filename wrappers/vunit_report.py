@@ -20,6 +20,15 @@ and the report couldn't be written. Before the run it writes a report of a run t
 leaves no older report.
 """
 
+# Why it is so:
+# A report is made beside the program, of what a simulator leaves of each run, and of -x. The program's own report has neither
+# times nor outputs.
+# A number that the launcher gives each start identifies the data of a run, since times differ between machines.
+# The report of a run that was cut off is written before the run: if it came only at the end, an old green one could stay
+# after a hard kill.
+# A case without whole data is an error, as is a failure of the program without a failed test. No result is green unless a
+# tool vouches for it.
+
 import json, os, re, signal, subprocess, sys
 from xml.etree import ElementTree
 

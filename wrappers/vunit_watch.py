@@ -10,6 +10,15 @@ at Ctrl-C, with the program and its children; with 1 where the folder has no pro
 the words; and with 3 where the program can't be started.
 """
 
+# Why it is so:
+# The program says whether a new name belongs to the project, so patterns have one reader.
+# The watch locks only vunit_out/watch around each run, and the launcher's starts share this lock, so neither refuses the
+# other. Not a start again after a refusal, for which the launcher would have to stay and read the program's output.
+# It looks for a process of the program in the folder while it has the lock, and then releases it. So either a start sees the
+# lock, or the watch sees the start. A start that waits goes first.
+# By /proc/locks it sees that a program without the launcher has the store. Trying the store's lock would end a run that
+# begins just then.
+
 import fcntl, gc, json, os, select, signal, subprocess, sys, tempfile, time
 
 import folder_changes

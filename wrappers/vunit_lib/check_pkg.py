@@ -7,6 +7,10 @@ function that does. Those over a clock are two more. The short package has the f
 without the place in a file. `build` calls this before it analyses the package.
 """
 
+# Why it is so:
+# A metavalue equals nothing when values are compared, is not one bit of a one-hot vector, matches only `-`, and is not
+# stable. VUnit's way for check_stable is not documented.
+
 import sys
 
 EVERYDAY = ["check", "check_true", "check_false", "check_relation", "check_not_unknown", "check_equal"]

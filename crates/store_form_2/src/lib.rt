@@ -1,8 +1,10 @@
-//! The payloads of a store that keeps each text and each node once: their bytes, and what they stand for.
-//! What the payloads of a store of nodes stand for, as locations in their bytes: texts, nodes and records are taken up one
-//! payload after the other, and nothing but names, words and numbers is copied. Names and commands are kept once, a node is
-//! a row of numbers, and whether a new one fits those that it depends on is found by numbers alone.
-//! Which records of requests stand for records of views, and how they are found by numbers.
+//! The payloads of form 2, a store that keeps each text and each node once: their bytes, and what they stand for.
+//! Texts, nodes and records are located in these bytes, and taken up one payload after the other. Only names, words and
+//! numbers are copied. Names and commands are kept once. A node is a row of numbers: numbers alone decide whether a new one
+//! fits its dependencies. It stands for the view of its number in the list of all nodes, so no definition recurses over nodes.
+//! Texts whose fingerprints are equal, since they only differ between its 16 segments, are compared one after the other. That
+//! takes time and changes no answer.
+//! Then: which records of requests stand for records of views, found by numbers.
 #![tactic(auto)]
 
 mod commands;
