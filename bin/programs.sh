@@ -7,8 +7,8 @@ sum_of() {
     printf '%s\n' "$1" | sha256sum | cut -c 1-64
 }
 
-# Prints a sum of the paths and bytes of the sources in a folder. What begins with a dot or ends with `~`, as editors leave files, is no
-# source.
+# Prints a sum of the paths and bytes of the sources in a folder. Names that begin with a dot or end with `~`, as editors leave
+# files, are not sources.
 sum_of_sources() {
     sums=$(find_files "$1" "" "" \( -name '.*' -o -name '*~' \) -prune -o -type f -exec sha256sum -- {} + 2>/dev/null) && [ -n "$sums" ] || return 1
     sum_of "$(printf '%s\n' "$sums" | LC_ALL=C sort)"
@@ -44,8 +44,8 @@ sum_up() {
     sources=$(sum_of_sources "$root") || fail 126 "not all of crates.txt, HANDLES and the sources in crates can be read"
 }
 
-# Sets toolchain to the first command of commands that is of the Rattle toolchain, and version to what it says of itself; to nothing
-# where there is none. A PATH that only this shell has set counts as empty.
+# Sets toolchain to the first command of commands that is of the Rattle toolchain, and version to what that prints of itself;
+# without such a command, both to nothing. A PATH that only this shell has set counts as empty.
 find_toolchain() {
     toolchain=
     version=
@@ -128,8 +128,8 @@ read_record() {
     done <"$1/record"
 }
 
-# Whether the program of this name lies there as it was built: it has the kind, the sums, the size and the SHA-256 of its record. One
-# that another script has checked is built again.
+# Whether the program of this name is unchanged: it has the kind, the sums, the size and the SHA-256 of its record. One that
+# another script has checked is built again.
 is_whole() {
     file=$out/$1/vunit_run
     read_record "$out/$1" && [ -f "$file" ] && [ -x "$file" ] || return 1
@@ -159,7 +159,7 @@ put_program() {
     remove_old "$1"
 }
 
-# Removes the programs of a kind but the last three. One that runs stays, and so does the one that starts take now.
+# Removes the programs of a kind but the last three. A running one stays, and also the one that starts take now.
 remove_old() {
     kept=
     [ ! -r "$current" ] || read -r kept <"$current" || kept=
@@ -191,16 +191,16 @@ read_proved() {
     done <"$root/PROVED"
 }
 
-# Sets folder to one of this name with git's own files, where a copy of the sources can lie: rt ci refuses a second crates.txt below
-# the top, but looks through no folder of git's. A file in it has rt take it for another repository. Where there are no such files,
-# or they can't be written, a folder is made for the time.
+# Sets folder to one of this name with git's own files, where a copy of the sources can lie. rt ci refuses a second crates.txt
+# below the top, but does not look through git's folders. A file in it has rt take it for another repository. Without such
+# files, or if they can't be written, a temporary folder is made.
 choose_folder() {
     git=$root/.git
     if [ -f "$git" ]; then
         read -r git <"$git"
         git=${git#gitdir: }
         case $git in /*) ;; *) git=$root/$git ;; esac
-        # (what is no worktree's folder isn't git's to be written in)
+        # (only a worktree's folder of git is to be written in)
         [ -f "$git/HEAD" ] || git=
     fi
     folder=$git/$1
@@ -231,7 +231,7 @@ is_full() {
     [ -n "$left" ] && [ "$left" -lt 1024 ]
 }
 
-# Prints the folder of those that a build writes to whose file system is full, or nothing.
+# Prints the folder with a full file system, of the folders that a build writes to, or nothing.
 full_folder() {
     for each in "$out" "$folder" "${TMPDIR:-/tmp}"; do
         ! is_full "$each" || { printf '%s\n' "$each"; return; }

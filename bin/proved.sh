@@ -11,7 +11,7 @@ minutes_of() {
     esac
 }
 
-# Proves and builds the program of the present sources where it isn't there, while nobody else does the same. It ends with 126 or a
+# Proves and builds the program of the present sources if it is missing, while nobody else does the same. It ends with 126 or a
 # signal's status where that fails.
 prove() {
     is_free=
@@ -48,8 +48,8 @@ for_each_out() {
         xargs -0 -r -n 1 -P "$jobs" sh -c "cd -- \"\$1\" || exit 0; $1" sh >>"$log" 2>&1
 }
 
-# Packs what rt keeps of its proofs for the next build, and removes what it makes of that anew in seconds. Where something
-# can't be packed, it is left as it is.
+# Packs what rt keeps of its proofs for the next build, and removes what it makes of that anew in seconds. If something can't be
+# packed, it stays unpacked.
 pack_kept() {
     command -v gzip >/dev/null && command -v tar >/dev/null || return 0
     for_each_out '
@@ -156,9 +156,8 @@ begin_telling() {
     say "each check takes up to 3 GB of memory, and all of them up to 11 GB of disk in $folder, of which 2.5 GB are kept"
 }
 
-# Writes the crates that the program is made of, each with the bytes of its sources, to weights, their lines of crates.txt
-# to needed, and to beside those of the crates that are proved side by side: all but the uppermost, which stand on each
-# other one by one.
+# Writes three files. weights has the crates of the program, each with the bytes of its sources; needed has their lines of
+# crates.txt. beside has the crates that are proved side by side: all but the uppermost, which use each other one by one.
 list_crates() {
     : >"$folder/beside"
     (cd -- "$folder/sources" && find crates/*/src crates/*/specs crates/*/proofs -type f -printf '%s %p\n' 2>/dev/null) |

@@ -60,10 +60,10 @@ find_commands() {
 
 stamp_form='%p %s %T@ %C@ %i\n'
 
-# Prints a line for each command named rt that stands before the toolchain's in PATH, one for the toolchain's, and one for each
-# source, and of a program that is named: path, size, times and number. Of a checked program, PROVED and the script that built it
-# have a line too. While these stay the same, so does all that the program is built of, and what is said of it. Where the toolchain
-# isn't in PATH, its kept line counts.
+# Prints a line for each command named rt before the toolchain's in PATH, one for the toolchain's, and one for each source, and
+# of a named program: path, size, times and number. Of a checked program, PROVED and the script that built it have a line too.
+# While these stay the same, the parts that the program is built of stay the same, and the line at its start. Where the
+# toolchain isn't in PATH, its kept line counts.
 print_stamp() {
     present=
     others=
@@ -85,8 +85,8 @@ print_stamp() {
     find_files "$root" "$present" "${2-}" ! -type d -printf "$stamp_form"
 }
 
-# Whether a program is kept for the present stamp. Sets program to its name, toolchain to the command that it was built with, and
-# claim to what is said of it at each start.
+# Whether a program is kept for the present stamp. Sets program to its name, toolchain to the command that it was built with,
+# and claim to the line that each start prints.
 is_current() {
     kept_toolchain=
     claim=

@@ -53,8 +53,8 @@ keep_stamp() {
     [ "$kind" = proved ] || [ ! -e "$out/$(name_of proved "$sources" "$version")" ] || rm -f -- "$current"
 }
 
-# Sets program to the name of the program of the present sources, which is built where it must. It ends the start with
-# 126, 127 or a signal's status where there is none.
+# Sets program to the name of the program of the present sources, which is built where it must. Without a program it ends the
+# start with 126, 127 or a signal's status.
 update() {
     need_processor
     enter_root
@@ -73,7 +73,7 @@ update() {
         fi
         need_toolchain
         mkdir -p -- "$out" 2>/dev/null && [ -w "$out" ] || fail 126 "there is no program of the present sources, and $out cannot be written to build one"
-        # what was built is of the sources as they were when they were copied
+        # the program is of the sources at the time of the copy
         [ "$turn" -eq 1 ] || say "the sources changed meanwhile"
         [ "$turn" -le 3 ] || fail 126 "the sources change faster than they are built"
         is_open=

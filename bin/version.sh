@@ -1,6 +1,6 @@
 # Read by bin/vunit_run where --version may be asked for.
 
-# Prints the version and what is known of the proof of the program that a start would run.
+# Prints the version, and whether the program that a start would run is proved.
 print_version() {
     read_part programs
     read_part start

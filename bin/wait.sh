@@ -1,8 +1,8 @@
 # Read by bin/vunit_run and by the launcher of a package, where VUNIT_RUN_WAIT is set or a watch has been in the present folder: waits
 # for other runs there.
 
-# Waits for a run of the watch and, where VUNIT_RUN_WAIT is set, for any other one, at most so many seconds. After that time the program
-# is started all the same, and says which process has the store. The words are those of the start.
+# Waits for a run of the watch and, with VUNIT_RUN_WAIT, for any other one, up to that number of seconds. After that time the
+# program is started anyway, and says which process has the store. The words are those of the start.
 wait_for_others() {
     seconds=${VUNIT_RUN_WAIT-}
     end=

@@ -1,7 +1,7 @@
-# Read where one of the words may ask for help or for the version, by bin/vunit_run and by the launcher of a package, which say each
-# what print_version prints: these words are answered before the program is reached. Nothing is built for that, or waited for.
+# Read if one of the words may ask for help or for the version, by bin/vunit_run and by the launcher of a package; each defines
+# print_version. These words are answered before the program is reached. Nothing is built for that, or waited for.
 
-# Sets asked to the first word that asks: a word of its own before `--`, which is no option's value, and not behind child-analyse or
+# Sets asked to the first word that asks: a word of its own before `--`, not an option's value, and not behind child-analyse or
 # child-bench. In a word of several letters, x and p take what is behind them for their value, or the next word.
 find_asked() {
     asked=

@@ -15,8 +15,8 @@ VARIABLE_LIMIT, SHOWN = 131_071, 200
 
 
 class Hooks:
-    """The hooks of one run. `ended_by` gives the words for a limit that was passed. `log` is the file with the output of those that
-    were run last."""
+    """The hooks of one run. `ended_by` gives the words for a limit that was passed. `log` is the file with the output of the
+    hooks that ran last."""
 
     def __init__(self, given, limits, ended_by):
         bench = given.bench
@@ -28,14 +28,14 @@ class Hooks:
         self.variables += [b"BENCH_GENERIC_%s=%s" % value for value in given.values.items()]
 
     def run_before(self):
-        """What is said of the first hook before the simulation that has failed. Only the bench itself leaves results."""
+        """The message about the first hook before the simulation that has failed. Only the bench itself leaves results."""
         said = self.run(BEFORE, self.given.before, self.variables)
         self.remove_results()
         return said
 
     def run_after(self, code):
-        """What is said of the first hook that has failed after a simulation that ended with this code, and whether all cases had
-        passed before it. None has any more."""
+        """The message about the first hook that has failed after a simulation with this code, and whether all cases had passed
+        before it. None has any more."""
         verdicts = verdicts_of(self.bench.cases, self.bench.results, code)
         has_passed = all(verdict == PASSED for _, verdict in verdicts)
         said = self.run(AFTER, self.given.after, [*self.variables, b"BENCH_VERDICT=" + (b"pass" if has_passed else b"fail")])

@@ -23,7 +23,7 @@ IN, BEFORE, AFTER, DATA, KEY, CONFIGURATION = b"--in=", b"--before=", b"--after=
 
 
 class WrongWord(Exception):
-    """What is wrong with a word, without a line feed."""
+    """The fault of a word, without a line feed."""
 
 
 class BenchRun:
@@ -81,8 +81,8 @@ def data_pattern(word):
 
 
 class GivenWords:
-    """The words of one run, by what they are for. `plain` has those of GHDL and of limits; `data` is None where no file, and not
-    even none, is declared."""
+    """The words of one run, by what they are for. `plain` has the words of GHDL and of limits; `data` is None unless the words
+    mention data files."""
 
     def __init__(self, words, run):
         self.run, self.plain, self.generics, self.before, self.after = run, [], {}, [], []

@@ -6,7 +6,7 @@ import os, select, time
 NO_ANSWER = 75
 ENDING = (signal.SIGINT, signal.SIGTERM, signal.SIGHUP)
 USUAL_AGAIN = {*ENDING, signal.SIGPIPE, signal.SIGXFSZ, signal.SIGQUIT}
-# What the runner looks at, and one byte more, so that too much stays too much; and what is kept of standard error.
+# What the runner looks at, and one byte more, so that a longer output stays too long; and the limit of standard error.
 OUTPUT_LIMIT, ERROR_LIMIT, PART = 262_144 + 1, 65_536, 65_536
 # A longer request waits in a file.
 IN_MEMORY = 67_108_864
@@ -18,7 +18,7 @@ BESIDE = [os.path.join(os.path.dirname(os.path.realpath(os.fsencode(__file__))),
 
 
 class NoAnswer(Exception):
-    """Why there is none."""
+    """Why no answer exists."""
 
 
 class Stopped(BaseException):
@@ -53,7 +53,7 @@ def become(command, words):
 
 
 def found(name, passed_over):
-    """The first command of this name in PATH that is no link to a program of these names."""
+    """The first command of this name in PATH that is not a link to a program of these names."""
     folders = [b""] if b"/" in name else os.environb.get(b"PATH", os.fsencode(os.defpath)).split(b":")
     for folder in folders:
         path = os.path.join(folder, name)
@@ -102,8 +102,8 @@ def write_all(descriptor, data):
 
 
 def run_command(path, words, data):
-    """Code, below 0 for a signal, output and standard error of a command over a request. Standard error is handed on; it is None where it
-    is too long to be kept."""
+    """Code, below 0 for a signal, output and standard error of a command over a request. Standard error is handed on; if it is
+    too long to be kept, it is None."""
     module = module_of(path)
     return run_beside(module, words, data) if module else Command(path, words, data).run()
 
@@ -184,7 +184,7 @@ class Command:
                     is_open = is_open and descriptor != self.output
         for descriptor in watched:
             os.close(descriptor)
-        # (what it has left behind may hold its standard error)
+        # (a process that it has started may hold its standard error)
         os.set_blocking(self.error, False)
         try:
             while self.take(self.error):

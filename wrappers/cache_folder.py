@@ -12,10 +12,9 @@ so that an entry means the same text in whichever folder it lies. What cannot be
 docs/FORMATS.md has the bytes.
 """
 
-# Why it is so:
-# With a nonce in the name of each text any tool can merge two folders, at worst with equal texts stored twice.
-# Files are made without a name and then linked (O_TMPFILE), so a killed start leaves none. Elsewhere trimming removes what is
-# left.
+# Why it is so: With a nonce in the name of each text any tool can merge two folders, at worst with equal texts stored twice.
+# Files are made without a name and then linked (O_TMPFILE), so a killed start leaves none. Elsewhere trimming removes
+# leftovers.
 
 import os, time
 
@@ -27,13 +26,13 @@ NONCE = 6
 NAME = TEXT_DIGEST + NONCE
 MAGIC = b"over_cache entry 1\n"
 INLINE, TEXT, LIST = b"\0", b"\1", b"\2"
-# So many equal digests are told apart, and so many files of a request share a list of references.
+# The greatest number of equal digests that are told apart, and of files of a request that share a list of references.
 MOST_EQUAL, IN_LIST = 64, 64
 DAY, STALE = 86_400, 3_600
 USUAL_MEGABYTES, MEGABYTE, SUBFOLDERS = 2_048, 1_048_576, 256
-# A compile trims with this chance of 1 in so many, one subfolder for at most so many seconds of the processor.
+# One compile in this number trims one subfolder, for at most this number of seconds of the processor.
 TRIM_CHANCE, TRIM_SECONDS = 8, 0.02
-# So much of its share is left to a subfolder that is trimmed.
+# The part of its share that a trimmed subfolder keeps.
 LEFT_OF_SHARE = 0.8
 
 
@@ -49,7 +48,7 @@ def cut(data, at):
 
 
 def read_file(path):
-    """The bytes of a regular file and its time; None where there is none."""
+    """The bytes of a regular file and its time; None if it does not exist."""
     try:
         file = os.open(path, os.O_RDONLY | os.O_NONBLOCK | os.O_CLOEXEC)
     except OSError:
@@ -73,7 +72,7 @@ def stands_at(data, at, wanted):
 
 
 class Entry:
-    """What an entry holds: when it was made, what was asked beside the request, the request's parts, and the values of its answer."""
+    """The content of an entry: its time, its context beside the request, the request's parts, and the values of its answer."""
 
     def __init__(self, made, asked, parts, answer, path=None, used=0):
         self.made, self.asked, self.parts, self.answer, self.path, self.used = made, asked, parts, answer, path, used
@@ -221,7 +220,7 @@ class CacheFolder:
     # Writing.
 
     def add(self, path, data):
-        """Makes a file, whole or not at all; tells whether it did, which it doesn't where there is one of that name."""
+        """Makes a file, whole or not at all; tells whether it did. It does not replace a file of that name."""
         folder = os.path.dirname(path)
         try:
             file = self.nameless_in(folder)
@@ -241,7 +240,7 @@ class CacheFolder:
             os.close(file)
 
     def nameless_in(self, folder):
-        """A file without a name in a subfolder, which is made where it isn't there."""
+        """A file without a name in a subfolder, which is made if it is missing."""
         for _ in range(2):
             try:
                 return os.open(folder, os.O_TMPFILE | os.O_WRONLY | os.O_CLOEXEC, 0o600)
@@ -268,7 +267,7 @@ class CacheFolder:
             os.unlink(new)
 
     def add_text(self, data, found=None):
-        """The name of a text, which is stored where it isn't there."""
+        """The name of a text, which is stored if it is missing."""
         found = found or text_digest(data)
         for number in range(MOST_EQUAL):
             pointer = self.numbered_path(found, number, b"name")
@@ -304,7 +303,7 @@ class CacheFolder:
         try:
             os.symlink(os.path.basename(path), pointer)
         except OSError:
-            # (somebody was quicker, or the file system has no links: the text is there twice then)
+            # (somebody was quicker, or the file system has no links: then two files have the text)
             pass
         return name
 

@@ -28,7 +28,7 @@ def state_of(path):
 
 
 def line_of(path):
-    """The line of a file, a folder or of nothing, as it is now."""
+    """The line of a file, a folder or of nothing, by its present state."""
     try:
         return b"rests %s %s" % (state_of(path), escaped(path))
     except FileNotFoundError:
@@ -54,7 +54,7 @@ class CacheKey:
         self.states = [state_in(line) for line in self.lines]
 
     def stands(self):
-        """Whether all on which it rests is as it was."""
+        """Whether nothing has changed on which it rests."""
         for before, path in self.states:
             try:
                 if before != state_of(path):
@@ -72,7 +72,7 @@ class CacheKey:
 
 
 def asked_for(command, words):
-    """The key that a command gives now: an empty one, which rests on the command, where it has none."""
+    """The key that a command gives now; without one, an empty key, which rests on the command."""
     none = CacheKey(b"%s\n%s\nkey\n" % (FORM, line_of(command)))
     import signal, subprocess
 
@@ -93,7 +93,7 @@ def asked_for(command, words):
 
 
 def key_of(state, command, words, stands=False):
-    """The key of a command with these words: what it has said, as long as that stands, which may be known, else what it says now."""
+    """The key of a command with these words: the remembered one while it is valid, else the one that it gives now."""
     named = [command, os.environb.get(b"PATH", b""), os.getcwdb(), *words]
     asked, _, text = state.remembered(b"key", named).partition(b"\n")
     try:

@@ -15,7 +15,7 @@ def with_length(data):
 
 
 class Malformed(Exception):
-    """The bytes are no request."""
+    """The bytes are not a request."""
 
 
 class Reader:

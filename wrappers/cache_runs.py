@@ -84,7 +84,7 @@ class CachedRun:
         except (OSError, NotDeclared):
             return False
 
-    # What is kept.
+    # The kept files.
 
     def files(self):
         """Paths and bytes of the files of a run that has passed, in one list; None where nothing is kept of it."""
@@ -118,7 +118,7 @@ class CachedRun:
     # What is put back.
 
     def restore(self, values):
-        """Has the folder of the run hold what was kept, the results last."""
+        """Puts the kept files into the folder of the run, the results last."""
         from ghdl_bench import empty_folder
 
         files = dict(zip(values[::2], values[1::2]))

@@ -1,6 +1,7 @@
-"""What over_cache remembers on this machine, for one user: keys that commands have given, what was said, and folders that don't answer.
+"""What over_cache remembers on this machine, for one user: keys that commands have given, messages, and folders that don't
+answer.
 
-It lies in over_cache_UID in TMPDIR, and is trusted only where nobody else may write it. All of it may be lost at any time.
+It lies in over_cache_UID in TMPDIR, and is trusted only where nobody else may write it. Everything may be lost at any time.
 """
 
 # Why it is so:
@@ -41,7 +42,7 @@ class LocalState:
         return b"%s/%s_%s" % (self.folder, kind, entry_digest(named(words)).hex().encode())
 
     def is_recent(self, path, seconds):
-        """Whether a file is there that was written less than so many seconds ago. (A time that is yet to come isn't.)"""
+        """Whether a file exists that was written less than this number of seconds ago. (A time that is yet to come isn't.)"""
         try:
             return self.is_ours and 0 <= time.time() - os.lstat(path).st_mtime < seconds
         except OSError:
@@ -76,7 +77,7 @@ class LocalState:
             return b""
 
     def say_once(self, text):
-        """Says something that each start would say, once in a while. (So many starts at once may each say it.)"""
+        """Says something that each start would say, once in a while. (Starts at the same time may each say it.)"""
         path = self.path(b"said", text)
         if not self.is_recent(path, SAID_AGAIN):
             self.write(path, text)

@@ -26,8 +26,8 @@ class CaseName:
 
 
 class Start:
-    """A start of the simulator: of a configuration, or of a bench as it is. `shown` says where its output is kept, and `fault`
-    why it can't begin."""
+    """A start of the simulator: of a configuration, or of a bench without one. `shown` says where its output is kept, and
+    `fault` why it can't begin."""
 
     def __init__(self, bench, configuration, folder, cases, words=(), fault=None):
         self.bench, self.configuration, self.folder, self.cases, self.words = bench, configuration, folder, cases, words
@@ -48,8 +48,8 @@ class Start:
 
 
 class ProgramRun:
-    """A run of the program, with the names of its tests, and the starts that it stands for; of those that can begin, `granted` were
-    told to."""
+    """A run of the program, with the names of its tests, and the starts that it stands for. `granted` counts the starts that
+    were told to begin."""
 
     def __init__(self, bench, cases, starts, is_configured):
         self.names = [b"%s.%s" % (bench, case) for case in cases or [WHOLE_BENCH]]
@@ -107,7 +107,7 @@ class Plan:
             left -= len(seen)
 
     def of_case(self, bench, case):
-        """The configurations in which a case runs; none where it runs as it is."""
+        """The configurations in which a case runs; empty if it runs without one."""
         return [one for one in self.configurations.get(bench, []) if one.is_for(case)]
 
     def is_selected(self, name):
@@ -125,8 +125,8 @@ class Plan:
         return sum(len(self.names_of_test(test)) for test in self.by_name.values())
 
     def program_patterns(self):
-        """The patterns, and behind them those by which the program selects the tests that stand for selected configurations. Where
-        there are none, it selects all."""
+        """The patterns, and behind them those by which the program selects the tests that stand for selected configurations.
+        Without patterns, it selects all."""
         found = list(self.given)
         for bench in self.configurations if found else []:
             tests = [self.by_name[f"{bench}.{case}"] for case in self.cases[bench]]

@@ -29,7 +29,7 @@ class ProgramText:
 
 
 class Shown:
-    """The cases of one start, with what is shown before them."""
+    """The cases of one start, with the text before them."""
 
     def __init__(self, names, output=b""):
         self.names, self.output = names, output
@@ -43,7 +43,7 @@ class Shown:
 
 
 def shown_tests(plan, server, verdicts):
-    """What is said of the tests of the program in their order, by the verdicts that it gives them."""
+    """The text about the tests of the program in their order, by its verdicts."""
     left, found, seen = {name: verdict for verdict, name in verdicts}, [], set()
     for name, verdict in left.items():
         run = server.runs.get(name)
@@ -56,7 +56,7 @@ def shown_tests(plan, server, verdicts):
 
 
 def unstarted(plan, test, verdict):
-    """The names of a test that was never started. No verdict but that of a bench as it is can be a pass."""
+    """The names of a test that was never started. Only the verdict of a bench without configurations can be a pass."""
     names = plan.names_of_test(test, verdict)
     for name in names:
         if verdict == PASSED and name.is_configured:
@@ -65,7 +65,7 @@ def unstarted(plan, test, verdict):
 
 
 def shown_run(run, server, verdicts):
-    """What is said of a run: of configurations what their stand-in said, of a bench as it is what the program says."""
+    """The text about a run: of configurations that of their stand-in, of other benches that of the program."""
     is_denied = any(verdicts.get(name) != PASSED for name in run.names)
     if run.is_configured and is_denied and all(start.has_passed() for start in run.starts):
         # (the answer of the stand-in was lost)

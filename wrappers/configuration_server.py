@@ -32,7 +32,7 @@ class StandIn:
 
 
 class Progress:
-    """What is told of a long run now and then, in place of the program, which is quiet: how many tests have ended."""
+    """The summary of a long run now and then, in place of the program, which is quiet: the number of ended tests."""
 
     def __init__(self, total):
         self.total, self.counts, self.told = total, {PASSED: 0, FAILED: 0, SKIPPED: 0}, 0
@@ -89,7 +89,7 @@ class Server:
         return b"".join(self.said)
 
     def take(self, file):
-        """Takes what has come from one of those that are heard."""
+        """Takes the bytes that one connection has sent."""
         if file in self.stand_ins:
             self.hear(self.stand_ins[file])
         elif file == self.listener.fileno():

@@ -89,7 +89,7 @@ class TableReader:
         return values
 
     def expanded(self, row, room):
-        """The configurations of a row of the table, of which there may be so many."""
+        """The configurations of a row of the table, up to a limit."""
         self.check_keys(row, KEYS)
         bench, name, case = self.text(row, "bench"), self.text(row, "name"), self.text(row, "case")
         generics = row.get("generics", {})
@@ -136,5 +136,5 @@ class TableReader:
 
 
 def plain(text):
-    """A text without control characters, as names of tests have none."""
+    """A text without control characters, which names of tests cannot have."""
     return "".join(letter for letter in text if letter >= " " and letter != "\x7f")

@@ -1,12 +1,13 @@
-"""Stands for the simulator in a run of vunit_configs: runs a bench in each of its configurations, and all others as they are.
+"""Stands for the simulator in a run of vunit_configs: runs a bench in each of its configurations, and others unchanged.
 
 usage: configured_bench SIMULATOR [WORD ..] <REQUEST
 
-It asks vunit_configs what to run, by the socket in the folder that VUNIT_CONFIGS names, and starts nothing before it is told to, so
-that all starts of a run have one limit. A configuration is a start of the simulator, which PATH finds behind that folder, with the
-words of the configuration behind the others, and a request with a folder of its own. Where all of them have passed, the results say
-so; else there are none, and it ends with 1. It ends with 75 where one of them has no answer; of a bench without configurations
-with the code of the simulator. It ends what it has started where nobody reads its output any more, or vunit_configs has gone.
+It asks vunit_configs what to run, by the socket in the folder that VUNIT_CONFIGS names, and starts nothing before it is told
+to, so that all starts of a run have one limit. A configuration is a start of the simulator, which PATH finds behind that
+folder, with the words of the configuration behind the others, and a request with a folder of its own. If all configurations
+have passed, the results say that; otherwise it writes no results, and ends with 1. It ends with 75 where one of them has no
+answer; of a bench without configurations with the code of the simulator. It ends its children if nobody reads its output any
+more, or vunit_configs has gone.
 """
 
 # Why it is so:
@@ -78,7 +79,7 @@ def write_all(file, data):
 
 
 class Start:
-    """A start of the simulator: a configuration of the bench, or the bench as it is. `name` is its place among all."""
+    """A start of the simulator: of a configuration of the bench, or of the bench without one. `name` is its place among all."""
 
     def __init__(self, name, folder, cases, words):
         self.name, self.folder, self.cases, self.words = name, folder, cases, words
@@ -227,7 +228,7 @@ class ConfiguredBench:
         leave(self.request.run_name() + b"/output.txt", b"".join(lines))
 
     def end_all(self):
-        """Ends each simulator, which ends what it has started."""
+        """Ends each simulator, which ends its own children."""
         until = time.monotonic() + ENDS_WITHIN
         for number in (signal.SIGTERM, signal.SIGKILL):
             for start in self.running.values():

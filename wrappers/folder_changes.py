@@ -31,8 +31,8 @@ class Change:
 
 
 def concerns(change, folder, files, is_refused):
-    """Whether a change is one of the project in a folder; None where only a look at the project tells. `files` are the paths of its
-    files, as far as they are known, and of a refused project there may be others."""
+    """Whether a change is one of the project in a folder; None where only a look at the project tells. `files` are the known
+    paths of its files; a refused project may have others."""
     if change.path is None:
         return None
     if change.path in PROJECT_FILES:

@@ -4,12 +4,12 @@ usage: ghdl_analyse [WORD ..] <REQUEST >ARTEFACT
 
 The words go to `ghdl -a`, after --std=08, but --key=WORD, which makes a request another one and nothing else. A relative -P
 counts from the present folder. GHDL has to have the code generator mcode, which keeps no objects: its library files name the
-sources, and these are read again when they are used. So an artefact is the file's own lines of GHDL's library file, the words that its users need too, and the source without its
-comments, as GHDL sees it here; a changed comment therefore changes no artefact. It ends with 0; with 1 where the file is
-refused, as where GHDL crashed over it; with 2 where the input is no request; with 75, and why on standard error, where there is
-no answer: GHDL could not be started, TMPDIR is missing or full, or GHDL was ended from outside; and with 128 and the number of
-a signal that ended it. So it does where nobody reads its standard output any more, as if that were SIGPIPE, and GHDL ends
-before it.
+sources, and these are read again when they are used. An artefact has the file's own lines of GHDL's library file, the words
+that its users need too, and the source without its comments. A changed comment therefore changes no artefact. It ends with 0;
+with 1 if the file is refused, or if GHDL crashed over it; with 2 if the input is not a request. It ends with 75, and why on
+standard error, without an answer: GHDL could not be started, TMPDIR is missing or full, or GHDL was ended from outside. It ends
+with 128 and the number of a signal that ended it. So it does where nobody reads its standard output any more, as if that were
+SIGPIPE, and GHDL ends before it.
 """
 
 # Why it is so:
@@ -35,9 +35,9 @@ from vhdl_comments import without_comments
 
 # A word that is passed over, as by ghdl_bench.
 KEY = b"--key="
-# By these GHDL is ended from outside: by an operator, a limit, for want of memory. By any other signal it crashed over the file.
+# Signals from outside: by an operator, a limit, or since memory is short. By any other signal it crashed over the file.
 FROM_OUTSIDE = {signal.SIGKILL, signal.SIGTERM, signal.SIGINT, signal.SIGHUP, signal.SIGXCPU}
-# Bytes of GHDL's output that are read, one more than the runner takes, and of those that it may print.
+# Limits in bytes: how much of GHDL's output is read, one more than the runner takes, and how much it may print.
 SAID_LIMIT, PRINTED = 262_145, Limits(67_108_864)
 MISSING_BODY = b"(in vunit.toml, users_depend_on_bodies = true hands over the bodies of packages)\n"
 MISSING_UNIT = b"""(where a file of the project has it, these lines in vunit.toml hand it over:
@@ -47,7 +47,7 @@ path = "%s"
 on_library = %s
 on_path = "PATH OF THE FILE THAT HAS IT")
 """
-# Libraries that come with VUnit, of which the wrapper has a part alone or nothing.
+# Libraries that come with VUnit. The wrapper has a part of each, or nothing.
 OF_VUNIT = {b"vunit_lib", b"osvvm"}
 TAKE_VUNIT = b"(it is part of VUnit, and not of the vunit_lib beside ghdl_analyse: `take_vunit FOLDER` copies an installed VUnit)\n"
 

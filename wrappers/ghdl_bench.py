@@ -2,22 +2,21 @@
 
 usage: ghdl_bench [WORD ..] <REQUEST
 
-The files of the request are those that ghdl_analyse made. Its words: --cpu-limit=SECONDS of processor time,
---wall-limit=SECONDS, --memory-limit=MEGABYTES of 1,048,576 bytes; --seed=WORD, from which and the name of the run follows the
-seed of the bench; generics, hooks and words of some benches alone, as bench_words.py has them; other words that begin with -- are
-for the simulation, and others for its analysis. {output} in a word is the folder of the run, which is emptied before anything is started. GHDL runs in the present folder, with nothing as its standard
-input and with PATH alone. What it prints goes to output.txt in the folder of the run, and at most 4,096 bytes of it to standard
-output, once it has ended; of a bench that has failed, with a last line that says where and why. The results are written by the
-VHDL library alone.
+The request has files that ghdl_analyse made. Its words: --cpu-limit=SECONDS of processor time, --wall-limit=SECONDS,
+--memory-limit=MEGABYTES of 1,048,576 bytes. --seed=WORD: the bench's seed follows from WORD and the name of the run. Generics,
+hooks and words of some benches: see bench_words.py. Other words that begin with -- are for the simulation, and the rest for its
+analysis. {output} in a word is the folder of the run, which is emptied before anything is started. GHDL runs in the present
+folder, with nothing as its standard input and with PATH alone. Its output goes to output.txt in the folder of the run, and at
+most 4,096 bytes of that to standard output at the end. For a failed bench a last line says where and why. The results are
+written by the VHDL library alone.
 
-Variables are for one invocation: GHDL_BENCH_KEEP=1 keeps the libraries in the folder of the run, with a script that repeats it;
-GHDL_BENCH_WORDS has words by which GHDL records something into that folder; and with VUNIT_RUN_ID, the number of the runner's
-start, data for reports are left there, as docs/FORMATS.md has them.
+Variables are for one invocation. GHDL_BENCH_KEEP=1 keeps the libraries in the folder of the run, with a script that repeats it.
+GHDL_BENCH_WORDS has words by which GHDL records something into that folder. With VUNIT_RUN_ID, the number of the runner's
+start, data for reports are left there, in the form of docs/FORMATS.md.
 
-It ends with GHDL's code, or 1 where that is 75; with 1 where the bench is refused or ended; with 2 where the
-input is no request; with 75, and why on standard error, where there is no answer: GHDL could not be started, or TMPDIR is
-missing or full; with 128 and the number of a signal that ended GHDL or the program, as which counts that nobody reads its
-standard output.
+It ends with GHDL's code, or with 1 instead of 75; with 1 if the bench is refused or ended; with 2 if the input is not a
+request. It ends with 75, and why on standard error, without an answer: GHDL could not be started, or TMPDIR is missing or full.
+It ends with 128 and the number of a signal that ended GHDL or the program; a closed standard output counts as SIGPIPE.
 """
 
 # Why it is so:
@@ -173,7 +172,7 @@ def limit(name, value):
 
 def place(libraries, position, built):
     """Where a restored source is: its folder counts up, and its name is the user's, so that GHDL's messages name that."""
-    # (GHDL's library files hold none of these bytes)
+    # (GHDL's library files never hold these bytes)
     name = as_named(built.path)
     if any(len(part) > FILE_NAME_LIMIT for part in name.split(b"/")):
         name = b"file.vhd"
@@ -306,13 +305,13 @@ TOOK = {OUTPUT: b"printed over %d bytes\n" % LOG_LIMIT, PROCESSOR: b"took over %
 
 
 def ended_by(words, why):
-    """What is said of a limit that was passed."""
+    """The message about an exceeded limit."""
     limits = dict(zip((PROCESSOR, WALL, MEMORY), words.limits.values()))
     return TOOK[why] % limits[why] if why in limits else TOOK[why]
 
 
 def judge(bench, words, code, why):
-    """The code of a bench that has ended so, and what is said of it."""
+    """The code of a bench that has ended in this way, and the message."""
     if why == KEEPER:
         return 1, b"ghdl_bench: the process that watches over GHDL was ended, and GHDL with it\n"
     if why:
@@ -361,7 +360,7 @@ def was_refused(bench, ended, why):
 
 
 def untried(room):
-    """What is said with a failed bench of a GHDL with which the wrapper wasn't tried, or nothing."""
+    """The note with a failed bench about a GHDL with which the wrapper wasn't tried, or nothing."""
     from ghdl_version import untried_in
 
     said = os.path.join(room.folder, b"version")

@@ -1,4 +1,4 @@
-"""How a bench has failed, by the log of its simulation: what is shown of the log, and one line `PATH:LINE: MESSAGE`.
+"""How a bench has failed, by the log of its simulation: the shown part of the log, and one line `PATH:LINE: MESSAGE`.
 
 A log has lines of the bench's loggers, `TIME - LOGGER - LEVEL - MESSAGE`, and what GHDL says at the end of a failed simulation:
 
@@ -32,7 +32,7 @@ CRASHED = re.compile(rb"^raised (.*)$")
 FRAME = b"  from: "
 SHIPPED_FRAME = re.compile(rb"^  from: (?:process )?vunit_lib\.")
 PLACE = re.compile(rb"^([^:/]+):\d+:\d+:(?=@)")
-# What begins the report of a stop of which the log has said why: of this vunit_lib, and of VUnit's own.
+# What begins the report of a stop whose reason is in the log: of this vunit_lib, and of VUnit's own.
 STOPPED = (b"stopped", b"Stop simulation")
 VECTOR = re.compile(rb"(?<![^ ])[01UXZWLH_-]{9,}(?= \(-?\d+\)|[ .]|$)")
 # Bytes of a log that are searched for the cause from its end, of a first error, and of the last line.
@@ -54,7 +54,7 @@ def first_error(path):
 
 
 def last_bytes(path, count):
-    """The end of a file, and whether that is all of it."""
+    """The end of a file, and whether it is the whole file."""
     with open(path, "rb") as log:
         size = log.seek(0, os.SEEK_END)
         log.seek(max(0, size - count))
@@ -77,8 +77,8 @@ def digits_of(bits):
 
 
 def in_hexadecimal(text):
-    """A message with each vector of over 8 bits in hexadecimal form. (A number of so many digits is one where its value follows, or
-    where it is longer than any integer.)"""
+    """A message with each vector of over 8 bits in hexadecimal form. (A number of this many digits is one if its value follows,
+    or if it is longer than any integer.)"""
 
     def form(found):
         bits = found[0].replace(b"_", b"")
@@ -127,7 +127,7 @@ def report_before(lines, at):
 
 
 def cause_in(lines, first_logged):
-    """The cause that the last lines of a log name, or None. `first_logged` is the first error of all of it."""
+    """The cause that the last lines of a log name, or None. `first_logged` is the first error of the whole log."""
     ends = [at for at, line in enumerate(lines) if (found := ENDED.match(line)) and found[1] not in AT_LAST]
     if not ends:
         return other_cause(lines)
@@ -137,7 +137,7 @@ def cause_in(lines, first_logged):
     found, text, first = report_before(lines, at)
     said = ENDED.match(lines[at])[1]
     if found and len(own) < len(calls):
-        # (the packages of vunit_lib say in the log what was wrong, or in the report itself, which may be of more errors)
+        # (the packages of vunit_lib give the reason in the log, or in the report itself, which may be of more errors)
         logged = message_before(lines, first)
         text = logged if text.startswith(STOPPED) and logged else text
         if text.endswith(b" errors in the log") and first_logged:
@@ -169,14 +169,14 @@ def cause_of(path):
 
 
 def one_line(path, line, message):
-    """The last line of what is said of a failed bench."""
+    """The last line of the text about a failed bench."""
     message = in_hexadecimal(b" ".join(message.split()))
     text = b"%s:%s: %s" % (path, line, message)
     return text if len(text) < LINE_LIMIT else text[: LINE_LIMIT - 4] + b" .."
 
 
 def last_lines(log, path, size):
-    """The end of a log that is too long: at most so many bytes, from the start of a line where one begins there."""
+    """The end of a log that is too long: a limited number of bytes, if possible from the start of a line."""
     head = b"(the last lines of %d bytes, all in %s)\n" % (os.stat(path).st_size, path)
     tail = log[-(size - len(head)) :]
     return head + (tail[tail.find(b"\n") + 1 :] if b"\n" in tail[:-1] else tail)
@@ -187,7 +187,7 @@ def with_line_end(text):
 
 
 class Failure:
-    """What is said of a bench that has failed: `line` is where and why, in one line."""
+    """The text about a failed bench: `line` is where and why, in one line."""
 
     def __init__(self, bench, used, code, said, log=None):
         """`log` is shown in place of that of the simulation."""
@@ -199,8 +199,8 @@ class Failure:
         self.line = one_line(*place_of(bench, used, cause), message)
 
     def text(self, besides, limit):
-        """At most so many bytes: the log without what GHDL says of the packages of vunit_lib, or its first error and its end; what the
-        wrapper says, `besides`, and that line."""
+        """A limited number of bytes: the log without GHDL's lines about the packages of vunit_lib, or its first error and its
+        end; what the wrapper says, `besides`, and that line."""
         text, is_all = last_bytes(self.log, 4 * limit)
         text = with_line_end(shown(text, self.packages))
         whole = b"(all of the output is in %s)\n" % self.log

@@ -25,21 +25,21 @@ MEGABYTE = 1_048_576
 
 
 class Refused(Exception):
-    """What is said on standard output before the program ends with this code."""
+    """A text for standard output, after which the program ends with this code."""
 
     def __init__(self, text, code=1):
         self.text, self.code = text, code
 
 
 class NoAnswer(Exception):
-    """What is said on standard error where the machine is at fault, and neither the file nor the bench."""
+    """A text for standard error: the machine is at fault, and neither the file nor the bench."""
 
     def __init__(self, text):
         self.text = text
 
 
 class Limits:
-    """What GHDL may take: bytes of output, and seconds of the processor, seconds, and megabytes; of these 0 is no limit."""
+    """Limits of GHDL: bytes of output, seconds of the processor, seconds by the clock, and megabytes; 0 means no limit."""
 
     def __init__(self, output, processor=0, wall=0, memory=0):
         self.output, self.processor, self.wall, self.memory = output, processor, wall, memory
@@ -389,7 +389,7 @@ def end_session(leader):
 
 
 def remove_within(folder):
-    """Removes all that is in a folder. Links are removed and not followed."""
+    """Empties a folder. Links are removed and not followed."""
     folders = [folder]
     for path in folders:
         with os.scandir(path) as entries:
@@ -403,7 +403,7 @@ def remove_within(folder):
 
 
 def remove(folder):
-    """Removes a folder with all that is in it, if it is there."""
+    """Removes a folder with its content, if it exists."""
     os.chdir("/")
     try:
         remove_within(folder)
@@ -435,7 +435,7 @@ def in_room(program, work):
 
 
 def drain():
-    """Reads the rest of the input: the runner writes all of it before it reads."""
+    """Reads the rest of the input: the runner writes everything before it reads."""
     while sys.stdin.buffer.read(65_536):
         pass
 

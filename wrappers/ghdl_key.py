@@ -17,7 +17,7 @@ BUILT = b"over_cache_hit"
 
 
 class Rests:
-    """The lines of all that was looked at, each as it was before that, and the key's own lines."""
+    """The lines of everything that was looked at, each from before that, and the key's own lines."""
 
     def __init__(self):
         self.lines, self.key = {}, []

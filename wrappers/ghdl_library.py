@@ -7,7 +7,7 @@ An artefact is the lines that GHDL's library file has of one file, what its user
     (an empty line, and the source, compressed)
 
 The words are those of GHDL without which the source can't be read again. The libraries are named by clauses of the file, and
-nothing of them was there when it was compiled: GHDL wants a library file all the same.
+had no units when it was compiled. GHDL wants a library file nevertheless.
 
 A start of GHDL takes some 20 ms, and so would the module re: what every start does is written without it.
 """
@@ -28,13 +28,13 @@ from run_data import HEX, PLAIN, escaped, unescaped
 ARTEFACT_LIMIT, SOURCE_LIMIT = 262_144, 4_194_304
 # Bytes of compressed sources that wait in memory.
 IN_MEMORY = 4_194_304
-# What a byte is in a word, of which case counts for nothing; a blank where it is in none.
+# What a byte is in a word, without regard to case; a blank for bytes outside words.
 IN_WORDS = bytes(ord(letter.lower()) if letter.isalnum() or letter == "_" else 32 for letter in map(chr, range(256)))
 # What needs no escape in the name of a file.
 IN_NAMES = bytes(range(0x80))
 # The folder of libraries of which there is nothing. It comes last of all folders with libraries, so it hides none.
 UNSEEN = b"unseen"
-# The standards, each after those that it contains, and what the names of library files have for them.
+# The standards, each after the ones that it contains, and their part of the names of library files.
 STANDARDS = {b"87": b"87", b"93": b"93", b"93c": b"93", b"00": b"93", b"02": b"93", b"08": b"08", b"19": b"19"}
 
 
@@ -48,8 +48,8 @@ def is_checksum(text):
 
 def unit_of(line, number=None):
     """Where the number of a unit begins and ends in its line of a library file, `  KIND NAME at LINE( OFFSET) + COLUMN on
-    NUMBER;` with ` body` behind the number of some: its place in the order of analysis, which is 0 in an artefact. None where
-    the line is none of a unit, or where its number isn't the one that is given."""
+    NUMBER;`. Some have ` body` after the number. The number is the unit's place in the order of analysis, which is 0 in an
+    artefact. None if the line is not a unit's, or has another number than the given one."""
     end = line[: -len(b" body;")] if line.endswith(b" body;") else line[:-1]
     head, on, found = end.rpartition(b" on ")
     head, plus, column = head.rpartition(b" + ")
@@ -162,7 +162,8 @@ OTHER = b"made by another compiler, or with another --std"
 
 
 def parts_of(artefact):
-    """The lines of the head of an artefact of today, the first and those of units, and its source; no lines where it is none."""
+    """The lines of the head of an artefact of today, the first and those of units, and its source; no lines if it is not
+    one."""
     lines, at = [], 0
     while (end := artefact.find(b"\n", at)) > at:
         lines.append(artefact[at:end])
@@ -185,7 +186,7 @@ class Restored:
     of the present room."""
 
     def __init__(self, room, request, standard=None):
-        """`standard` is what the names of library files have for it; where it is None the first file decides."""
+        """`standard` is its part of the names of library files; None lets the first file decide."""
         self.room, self.files, self.standard = room, [], standard
         # Where libraries and sources go.
         self.folder = room.folder

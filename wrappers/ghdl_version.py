@@ -19,7 +19,7 @@ def named_in(text):
 
 
 def untried_in(text):
-    """What is said of a GHDL that prints this for --version: nothing of one that was tried, or of what isn't known to be GHDL."""
+    """The note about a GHDL that prints this for --version; nothing about a tried one, or about an unknown text."""
     found = named_in(text)
     if found is None or found in TRIED:
         return ""
@@ -27,7 +27,7 @@ def untried_in(text):
 
 
 def untried(command="ghdl"):
-    """As `untried_in`, of the command in PATH; nothing where there is none, of which the wrappers say so."""
+    """As `untried_in`, of the command in PATH; nothing if it is missing, which the wrappers report."""
     import subprocess
 
     path = {"PATH": os.environ.get("PATH", os.defpath)}

@@ -1,5 +1,5 @@
-"""What the keeper needs for a hook alone: whatever a user's command has started becomes a child of the keeper when its own
-parent ends, also in a session of its own, and is ended with the command."""
+"""What the keeper needs for a hook alone. Whatever a user's command has started becomes a child of the keeper when its parent
+ends, also in another session, and is ended with the command."""
 
 # Why it is so:
 # Orphans become children of the keeper, since a daemon leaves the hook's process group.
@@ -13,7 +13,7 @@ SECONDS = 10
 
 
 def take_orphans():
-    """Has the system give the present process all orphans among what it has started."""
+    """Has the system give the present process all orphans among its descendants."""
     ctypes.CDLL(None).prctl(PR_SET_CHILD_SUBREAPER, 1, 0, 0, 0)
 
 
@@ -32,7 +32,7 @@ def children():
 
 
 def end_children():
-    """Ends all that is left, which may be starting something."""
+    """Ends all remaining processes, which may be starting something."""
     until = time.monotonic() + SECONDS
     while (left := list(children())) and time.monotonic() < until:
         for process in left:

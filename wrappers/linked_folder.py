@@ -1,5 +1,5 @@
-"""A folder that looks as a project would with the buffers of an editor saved: its folders, a link for each file, and a file for each
-buffer that isn't as it is on the disk."""
+"""A folder that looks like the project with the buffers of an editor saved: its folders, a link for each file, and a file for
+each unsaved buffer."""
 
 import os
 
@@ -20,7 +20,7 @@ class LinkedFolder:
         os.mkdir(path)
 
     def list_project(self):
-        """What is to be there without any buffer: each folder before what is in it."""
+        """The entries without any buffer: each folder before its content."""
         listing, waiting = {}, [""]
         while waiting:
             before = waiting.pop()
@@ -43,8 +43,8 @@ class LinkedFolder:
             return []
 
     def follow(self, buffers, has_new_names, is_project=True):
-        """Makes the folder as it is to be. `buffers` are the paths and the bytes of the buffers that aren't as they are on the disk. Of a
-        folder that has no project nothing else is there."""
+        """Brings the folder up to date. `buffers` are the paths and the bytes of the unsaved buffers. Of a folder that has no
+        project nothing else is there."""
         if not is_project:
             self.listing = {}
         elif has_new_names or self.listing is None:
@@ -104,7 +104,7 @@ class LinkedFolder:
         os.replace(new, full)
 
     def read(self, path):
-        """The bytes of a file as it is there, or None."""
+        """The bytes of the file there, or None."""
         try:
             with open(os.path.join(self.path, path), "rb") as file:
                 return file.read()

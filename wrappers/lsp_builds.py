@@ -50,7 +50,7 @@ class Builds:
         self.begin(names)
 
     def begin(self, names):
-        """Begins with a compilation, where `names` is None, or with tests; or has it begin later."""
+        """Begins a compilation, or tests if `names` names some; or has it begin later."""
         self.project.follow_folder()
         if not self.project.is_project:
             self.project.client.show(ERROR, "no vunit.toml and no vunit.csv")
@@ -143,7 +143,7 @@ class Builds:
                 self.show_verdicts()
 
     def show_verdicts(self):
-        """Shows what became of tests, each at its name, once the names are known, and the whole text in the client's log."""
+        """Shows the verdict of each test at its name, once the names are known, and the whole text in the client's log."""
         project = self.project
         if self.waiting is None or not project.has_tests:
             return

@@ -11,7 +11,7 @@ ERROR, WARNING, INFORMATION, LOG = 1, 2, 3, 4
 
 
 class WrongParams(Exception):
-    """What is wrong in what a message has."""
+    """A fault in the content of a message."""
 
 
 def at(value, *keys, kind=dict, default=None):
@@ -123,7 +123,7 @@ class Client:
 
 
 class Progress:
-    """The progress of one run, in the client's own way; where it has none, as lines of its log."""
+    """The progress of one run, in the client's own way; if it lacks one, as lines of its log."""
 
     def __init__(self, client, title, quiet=False):
         self.client, self.title, self.quiet, self.token = client, title, quiet, None

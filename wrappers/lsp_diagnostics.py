@@ -64,7 +64,7 @@ class Shown:
         return uri_of(os.path.join(self.folder, path))
 
     def range(self, path, place):
-        """The range of a place; that of the first line where it is None."""
+        """The range of a place; without a place, that of the first line."""
         text = self.text(path)
         if place is None:
             place = 0, len(text.lines[0].rstrip(b"\r\n"))
@@ -86,7 +86,8 @@ class Shown:
         return shown
 
     def move(self, path, start, end, new_end):
-        """Moves what is shown of a buffer along with a change of its text from `start` to `end`, which then ends at `new_end`."""
+        """Moves the findings of a buffer along with a change of its text from `start` to `end`, which then ends at
+        `new_end`."""
         for found in self.by_source.values():
             for diagnostic in found.get(path, ()):
                 place = diagnostic["range"]

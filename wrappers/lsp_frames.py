@@ -17,7 +17,7 @@ class FrameFault(Exception):
 
 
 class NoMessage(Exception):
-    """Why a text is no message: the code of the protocol, and words."""
+    """Why a text is not a message: the code of the protocol, and words."""
 
     def __init__(self, code, words):
         super().__init__(words)

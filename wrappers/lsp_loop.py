@@ -8,7 +8,7 @@ import errno, os, selectors, signal, subprocess, sys, time, traceback
 from vunit_report import end_with_parent
 
 CHUNK, OUTPUT_LIMIT = 65536, 67_108_864
-# A client that reads nothing is sent nothing more, and nothing is read of it, while so much waits for it.
+# A client that reads nothing is sent nothing more, and nothing is read from it, while this many bytes wait for it.
 WAITING_LIMIT = 1_048_576
 # What a pipe takes at once that has room.
 PIPE_PART = 4096
@@ -25,7 +25,7 @@ def do(work, *given):
 
 
 class Run:
-    """A program that runs in a process group of its own, and what it has printed."""
+    """A program that runs in a process group of its own, and its output."""
 
     def __init__(self, loop, words, folder, ended, told=None, environment=None):
         """`ended` is called with this run once it has ended; `told` with each part of its standard error."""
@@ -128,7 +128,7 @@ class Loop:
             run.look()
 
     def at(self, name, seconds, work):
-        """Does this work in so many seconds, and not what was to be done under this name before."""
+        """Does this work after this number of seconds, in place of earlier work of this name."""
         self.times[name] = time.monotonic() + seconds, work
 
     def never(self, name):

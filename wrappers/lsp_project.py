@@ -1,4 +1,4 @@
-"""A project in an editor: its buffers, and the runs of vunit_run that say what is wrong in them."""
+"""A project in an editor: its buffers, and the runs of vunit_run that find faults in them."""
 
 # Why it is so:
 # A check is -f and, unless that refuses, --export-json: so a refusal is shown before tests are looked for. A change ends a
@@ -59,7 +59,7 @@ class Project:
         return self.buffers[path].data() != self.on_disk(path)
 
     def change(self, path, place, letters, version):
-        """Changes a buffer: all of it, or what is between two places."""
+        """Changes a buffer: the whole text, or the text between two places."""
         if place is None:
             self.buffers[path] = text_of_buffer(letters, self.on_disk(path), self.settings.units)
         else:
@@ -123,7 +123,7 @@ class Project:
         self.linked.follow(unsaved, self.has_new_names or self.changes.file is None, self.is_project)
         self.has_new_names = False
 
-    # What is wrong, while somebody types.
+    # Faults of the sources, while somebody types.
 
     def changed(self):
         """Something that a run would read has changed."""
@@ -138,7 +138,7 @@ class Project:
         return "check" in self.loop.times
 
     def begin_check(self):
-        """Asks what is wrong. An earlier run is ended, but not one that may be building the program."""
+        """Asks for faults of the sources. An earlier run is ended, but not one that may be building the program."""
         if self.check:
             if self.is_first or self.check.age() > SHORT:
                 self.loop.at("check", QUIET, self.begin_check)
@@ -198,7 +198,7 @@ class Project:
             self.fail(f"the export of {self.program}: {fault}")
 
     def put_tests(self, tests, is_whole=True):
-        """Takes the tests of an answer; a refused project has none that are known."""
+        """Takes the tests of an answer; of a refused project no tests are known."""
         before = [(test.name, test.path, test.place) for test in self.tests]
         self.tests, self.has_tests = tests, is_whole
         self.builds.show_verdicts()

@@ -1,6 +1,6 @@
-"""Patterns of names and of paths, as docs/user/MANUAL.md has them for tests and for files: `*` stands for any bytes, `?` for one
-byte, and a set in brackets for one of its bytes. (It is written without the module re, which takes longer to import than to
-read the few patterns of a simulator.)"""
+"""Patterns of names and of paths, by the rules of docs/user/MANUAL.md for tests and for files. `*` stands for any bytes, `?`
+for one byte, and a set in brackets for one of its bytes. (It is written without the module re, which takes longer to import
+than to read the few patterns of a simulator.)"""
 
 import os
 

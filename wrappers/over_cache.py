@@ -8,8 +8,8 @@ OVER_CACHE names the folder; without it, the command alone is run. With OVER_CAC
 request's bytes, the words, and what `COMMAND --cache-key WORDS` prints (cache_key.py), with OVER_CACHE_KEY behind it; a command
 that has no key is cached only where OVER_CACHE_KEY is set. Whatever is wrong with the folder, the command is started.
 
-It ends with the command's code, by the signal that ended the command, with 128 and the number of a signal that ended the program, as
-which counts that nobody reads its standard output, and with 75 where there is no answer.
+It ends with the command's code, or by the signal that ended the command. It ends with 128 and the number of a signal that ended
+the program, a closed standard output counting as SIGPIPE; and with 75 without an answer.
 """
 
 # Why it is so:
@@ -34,7 +34,7 @@ OUTPUT_MOST = 262_144
 
 
 class NotCached(Exception):
-    """Why a request isn't looked up; nothing is said where that is None."""
+    """Why a request isn't looked up; None has no message."""
 
 
 class Asked:
@@ -68,7 +68,7 @@ class Asked:
         return key_of(self.state, command, self.words, stands)
 
     def stands(self):
-        """Whether all that was looked at is as it was."""
+        """Whether everything that was looked at is unchanged."""
         return self.key.stands() and (self.run is None or self.run.stands())
 
 
@@ -178,7 +178,7 @@ def start(words):
 
 
 def drain():
-    """Reads the rest of the input: the runner writes all of it before it reads."""
+    """Reads the rest of the input: the runner writes everything before it reads."""
     try:
         while os.read(0, 65_536):
             pass

@@ -1,4 +1,5 @@
-"""Takes apart what vunit_run prints: a refusal, warnings, what a compiler said of each file, and verdicts. All of it in bytes."""
+"""Takes apart what vunit_run prints: a refusal, warnings, what a compiler said of each file, and verdicts. Everything in
+bytes."""
 
 import re
 
@@ -29,7 +30,7 @@ def warnings_in(text):
 
 
 def refusal_in(text):
-    """The refusal that a text has, without the program's name; with the lines of a cycle. None where it has none."""
+    """The refusal that a text has, without the program's name; with the lines of a cycle. None if it lacks one."""
     lines = text.split(b"\n")
     for at, line in enumerate(lines):
         if line.startswith(PROGRAM) and not line.startswith(WARNING):
@@ -46,7 +47,7 @@ def files_in(text):
 
 
 class CompiledFile:
-    """What became of a file in a build, and the lines that its compiler printed."""
+    """The status of a file in a build, and the lines that its compiler printed."""
 
     def __init__(self, library, path, end):
         self.library, self.path, self.end, self.lines = library, path, end, []

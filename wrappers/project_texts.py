@@ -1,4 +1,4 @@
-"""Finds keys and values in a `vunit.toml`, and lines of a `vunit.csv`. A text that is no TOML is taken as far as it goes."""
+"""Finds keys and values in a `vunit.toml`, and lines of a `vunit.csv`. A text that is not TOML is taken up to its fault."""
 
 import re, tomllib
 

@@ -72,7 +72,7 @@ class Places:
         return [Finding(TOML, self.toml().key(match[1].decode()), text)]
 
     def library_name(self, text, wanted, number):
-        """A name of a library in the project file: which of those that are `wanted`, from 0 on."""
+        """A name of a library in the project file: the occurrence `wanted`, from 0 on."""
         if self.project == CSV:
             return self.in_project(text, csv_place(self.read(CSV), 0, lambda library, _: library.lower() == wanted, number))
         return self.in_project(text, self.toml().find(
@@ -149,7 +149,7 @@ class Places:
         return [Finding(self.project, None, text)]
 
     def test_twice(self, text, match):
-        """The second call that names the test; in the file of the bench's entity where there is none."""
+        """The second call that names the test; without one, in the file of the bench's entity."""
         library, entity = cut_name(match[1])[:2]
         case = match[1][len(library) + len(entity) + 2 :]
         for file in self.files:

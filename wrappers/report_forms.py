@@ -28,7 +28,7 @@ ESCAPE = str.maketrans(ESCAPES)
 
 
 class Case:
-    """A test, and what became of it."""
+    """A test and its verdict."""
 
     def __init__(self, class_name, name):
         self.class_name, self.name, self.verdict, self.message = class_name, name, "error", ""
@@ -112,7 +112,7 @@ def write_xml(path, cases, outputs):
 
 
 def replace_file(path, text):
-    """Writes a file whole, or leaves what was there."""
+    """Writes a file whole, or does not change it."""
     data, part = text.encode(), f"{path}.part"
     if os.path.exists(path) and not os.path.isfile(path):
         # (a device or a pipe is written in place)

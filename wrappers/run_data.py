@@ -11,8 +11,8 @@
     from the cache      of a run that was restored, and took no time
     whole
 
-A byte that isn't visible, and `=`, is written as `=` and two digits. The verdicts are those that the runner finds by the same
-results and the same code.
+A byte that isn't visible, and `=`, is written as `=` and two digits. The verdicts are the ones that the runner finds by the
+same results and the same code.
 """
 
 import quick_os as os
@@ -39,7 +39,7 @@ def unescaped(word):
 
 
 def lines_of(results):
-    """The lines of a results file, each once, in order; None where there is no such file, or it is longer than the runner takes."""
+    """The lines of a results file, each once, in order; None if the file is missing, or longer than the runner takes."""
     # (opening a pipe would wait)
     if not os.path.isfile(results) or os.stat(results).st_size > RESULTS_LIMIT:
         return None
@@ -75,7 +75,7 @@ def write_data(folder, run, times, code, command, verdicts, error, is_restored=F
 
 
 class RunData:
-    """What was left of one run."""
+    """The data of one run."""
 
     def __init__(self, folder, text, left):
         """`left` is when it was left, by the clock of this machine."""
@@ -98,7 +98,7 @@ class RunData:
 
 
 def read_data(folder):
-    """The data in a folder, or None where there is none, or what is there isn't whole."""
+    """The data in a folder, or None if they are missing or not whole."""
     name = os.path.join(folder, NAME)
     try:
         # (opening a pipe would wait)

@@ -8,7 +8,7 @@ AT_ONCE_LIMIT = 64
 
 
 class WrongWords(Exception):
-    """Which word is none of vunit_run."""
+    """Which word vunit_run does not know."""
 
 
 class RunnerWords:
@@ -68,7 +68,7 @@ class RunnerWords:
         self.values[name] = value
 
     def mode(self):
-        """What is to be done: of several modes the first of this list counts."""
+        """The task: of several modes the first of this list counts."""
         for name in ("generate", "export-json"):
             if name in self.values:
                 return name

@@ -9,7 +9,7 @@ is_script() {
     return 1
 }
 
-# Sets python to the first python3 in PATH that is no script, and shim to the first one that is; else both to nothing.
+# Sets python to the first python3 in PATH that is not a script, and shim to the first one that is; otherwise both to nothing.
 look_in_path() {
     python=
     shim=

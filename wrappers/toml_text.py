@@ -20,7 +20,7 @@ PLAIN_IN_LINES = {'"': re.compile(r'[^"\\]*'), "'": re.compile(r"[^']*")}
 
 
 class TomlFault(Exception):
-    """What is wrong with a text, with line and column, both from 1 on."""
+    """The fault of a text, with line and column, both from 1 on."""
 
     def __init__(self, text, at, what):
         self.line, self.column = text.count("\n", 0, at) + 1, at - (text.rfind("\n", 0, at) + 1) + 1
@@ -152,7 +152,7 @@ class Reader:
             raise self.fault(f"{last} stands twice", first)
 
     def inner(self, table, part, made_by, allowed, first, line):
-        """The table of this name within a table, which is made where it isn't there."""
+        """The table of this name within a table, which is made if it is missing."""
         there = table.get(part)
         if there is None:
             table.lines.setdefault(part, line)
@@ -282,7 +282,7 @@ class Reader:
                 continue
             marks = self.take(re.compile(mark + "{1,5}"))
             if len(marks) >= 3:
-                # (up to two marks may stand before those that close it)
+                # (up to two marks may stand before the closing ones)
                 return "".join(parts) + mark * (len(marks) - 3)
             parts.append(marks)
 

@@ -1,5 +1,5 @@
-"""Takes comments out of VHDL, by the tokens of IEEE Std 1076-2008, clause 15: what looks like one inside a string, a
-character or an extended identifier isn't one. (It is written without the module re, whose import takes as long as all of it.)"""
+"""Takes comments out of VHDL, by the tokens of IEEE Std 1076-2008, clause 15: what looks like one inside a string, a character
+or an extended identifier isn't one. (It is written without the module re, whose import takes as long as the whole module.)"""
 
 # What begins a comment, a tool directive, a string, an extended identifier, and an apostrophe.
 MARKS = (b"--", b"/*", b"`", b'"', b"\\", b"'")
@@ -100,8 +100,8 @@ def without_ends(text, ends):
 
 
 def without_comments(source, keeps_blocks):
-    """The source with blanks for its comments, and without blanks at the ends of lines; lines and columns stay as they are.
-    With `keeps_blocks` block comments stay. So does the rest of a text after one that isn't closed."""
+    """The source with blanks for its comments, and without blanks at the ends of lines; lines and columns do not move. With
+    `keeps_blocks` block comments stay. The rest of a text after an unclosed one stays too."""
     pieces, parts, at, before, text = Pieces(source), [], 0, False, b""
     while found := pieces.after(at):
         mark, first, last = found

@@ -6,7 +6,7 @@
 
 BLANKS = b" \t\n\v\f\r\xa0"
 IN_NAMES = frozenset(b"ABCDEFGHIJKLMNOPQRSTUVWXYZabcdefghijklmnopqrstuvwxyz0123456789_") | frozenset(range(0xC0, 0x100))
-# What begins an element of a generic clause that is no constant.
+# Words that begin another element of a generic clause than a constant.
 OTHERS = (b"type", b"package", b"function", b"procedure", b"pure", b"impure")
 
 
@@ -64,7 +64,7 @@ class Tokens:
 
 
 def name_in_text(name):
-    """A name as tokens have it: one that isn't extended in lower case."""
+    """A name in the form of tokens: a basic one in lower case."""
     return name if name.startswith(b"\\") else name.lower()
 
 

@@ -18,7 +18,7 @@ DESIGN_UNITS = (b"entity", b"package", b"context", b"configuration")
 
 
 class Token:
-    """Where a token is, and what it is: a basic identifier or a reserved word in lower case, anything else as it is written."""
+    """A token and its place: a basic identifier or a reserved word in lower case, anything else unchanged."""
 
     __slots__ = ("start", "end", "text", "is_name")
 
@@ -45,7 +45,7 @@ def tokens_of(text):
 
 
 def end_of_token(text, at):
-    """Where the token ends that begins at an offset; the end of its line where it isn't closed."""
+    """Where the token ends that begins at an offset; the end of its line if it isn't closed."""
     match = TOKEN.match(text, at)
     if match is None:
         return min(at, len(text))
@@ -134,7 +134,7 @@ class Words:
         return (self.tokens[found[number]].start, self.tokens[found[number]].end) if number < len(found) else None
 
     def units(self):
-        """The names of the primary units that are declared, and of those that a body or an architecture belongs to."""
+        """The names of the declared primary units, and of the primary units of bodies and architectures."""
         names = []
         for at in range(len(self.tokens)):
             if self.is_at(at - 1, b"end"):

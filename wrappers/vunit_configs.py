@@ -1,4 +1,4 @@
-"""Runs the benches of a project in the configurations of a table, and all other benches as they are: in one run of vunit_run.
+"""Runs the benches of a project in the configurations of a table, and all other benches unchanged: in one run of vunit_run.
 
 usage: vunit_configs TABLE [WORD ..]
 
@@ -26,8 +26,8 @@ STAND_IN = os.path.join(WRAPPERS, "configured_bench")
 
 
 class Report:
-    """A report at a path that the user gives. A regular file, or one that isn't there, is first written by the program, which knows
-    what it may replace; anything else is written here alone, in place."""
+    """A report at a path that the user gives. A regular file, or a missing one, is first written by the program, which knows
+    what it may replace. Anything else is written here alone, in place."""
 
     def __init__(self, path):
         self.path = path

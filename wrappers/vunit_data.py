@@ -2,9 +2,9 @@
 
 usage: vunit_data [PATTERN ..]
 
-It prints a line `LIBRARY.BENCH, PATH` for each file of each bench of which a test matches one of the patterns, and then how many
-it has listed. It ends with 0; with 1 where a word of the simulator is wrong, a pattern of files matches no file, or a word --in
-names no test; otherwise as vunit_run does, whose list of tests it takes."""
+It prints a line `LIBRARY.BENCH, PATH` for each file of each bench of which a test matches one of the patterns, and then how
+many it has listed. It ends with 0. It ends with 1 if a word of the simulator is wrong, a pattern of files matches no file, or a
+word --in names no test. Otherwise it ends as vunit_run does, whose list of tests it takes."""
 
 import os
 
@@ -17,8 +17,8 @@ OUTPUT = b"vunit_out"
 
 
 def declared_patterns(words, tests):
-    """The patterns that words of a simulator declare for the runs of these tests, each once; None where they declare not even that
-    there is none."""
+    """The patterns that words of a simulator declare for the runs of these tests, each once; None if they declare nothing, not
+    even that a bench reads nothing."""
     found = None
     for test in tests:
         library, bench = test.library.encode(), test.bench[len(test.library) + 1 :].encode()

@@ -10,9 +10,9 @@ usage: vunit_report [WORD ..] FILE
     --html FILE      writes a page too
     --all-output     has the output of tests that passed too
 
-It works in the folder of the project, where simulators leave data of their runs (docs/FORMATS.md). A selected test of which the
-run left no whole data is an error, and so is a run that was cut off, so no such report is green. It ends with 0 where the
-report was written, and with 2 where it couldn't be.
+It works in the folder of the project, where simulators leave data of their runs (docs/FORMATS.md). A selected test without
+whole data of the run is an error, as is a run that was cut off. No such report is green. It ends with 0 where the report was
+written, and with 2 where it couldn't be.
 
 With --around, which the launcher says for VUNIT_REPORT=FILE, it exports the selected tests, runs the program with these words, and
 reports; a page goes to the file that VUNIT_REPORT_HTML names. It ends as the program does, and with 2 where that ended with 0
@@ -76,7 +76,7 @@ def read_selected(path):
 
 
 def read_xunit(path):
-    """The verdicts of a report by -x, by class and case; None where there is none."""
+    """The verdicts of a report by -x, by class and case; None without a report."""
     try:
         tree = ElementTree.parse(path)
     except (OSError, ElementTree.ParseError):
@@ -85,7 +85,7 @@ def read_xunit(path):
 
 
 def verdict_in(case):
-    """That of an element; what -x never has in it is no verdict."""
+    """That of an element; an element that -x never has gives no verdict."""
     tags = [child.tag for child in case if child.tag not in ("system-out", "system-err", "properties")]
     return {(): "pass", ("failure",): "fail", ("skipped",): "skip"}.get(tuple(tags), "error")
 
@@ -131,11 +131,11 @@ def data_of(names, run):
 
 
 class Run:
-    """What became of the selected tests in one run."""
+    """The verdicts of the selected tests in one run."""
 
     def __init__(self, names, data, verdicts, is_cut=False, status=None):
-        """`data` is what was left of them, and `verdicts` are those of -x, or None where the run has written none; `status` is that of
-        the program, if it is known."""
+        """`data` are the data of the runs. `verdicts` are those of -x, or None if the run has not written it. `status` is that
+        of the program, if it is known."""
         self.status, self.cases = status, []
         for name in names:
             class_name, case_name = split_name(name)
@@ -171,7 +171,7 @@ def write_reports(run, file, html, all_output):
 
 
 class Words:
-    """The command line of a report over what is there."""
+    """The command line of a report over existing data."""
 
     def __init__(self, words):
         self.values, self.all_output, self.file = {}, False, None
@@ -194,7 +194,7 @@ class Words:
 
 
 def report(words):
-    """A report over what is there."""
+    """A report over existing data."""
     words = Words(words)
     names, written = read_selected(words.values.get("--export", SELECTED))
     given, xunit, verdicts = words.values.get("--run"), words.values.get("--xunit"), None
@@ -221,11 +221,11 @@ class Around:
             self.xunit = own[0]
         else:
             self.command[1:1] = ["-x", self.xunit]
-        # The -x as it was before the run: it counts only where the run has written it.
+        # The -x from before the run: it counts only if the run has written it.
         self.before = stamp_of(self.xunit)
 
     def select(self):
-        """Has the program export the tests of the same words. What is wrong with these it says in the run."""
+        """Has the program export the tests of the same words. The run itself reports their faults."""
         export = [self.command[0], "--export-json", SELECTED, *self.command[1:]]
         ran = subprocess.run(export, stdin=subprocess.DEVNULL, stdout=subprocess.DEVNULL, stderr=subprocess.DEVNULL,
                              env={**os.environ, "VUNIT_REPORT": ""})

@@ -119,7 +119,7 @@ def tell_line(line):
     try:
         os.write(2, line)
     except OSError:
-        # (no result depends on what is told)
+        # (no result depends on these lines)
         pass
 
 

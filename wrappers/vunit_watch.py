@@ -2,12 +2,12 @@
 
 usage: vunit_watch [WORD ..]
 
-The words are those of vunit_run, and `--changed` is added where the program has it. The program is what VUNIT_RUN names; else vunit_run in
-PATH; else the launcher of this checkout. It works in the folder of the project: the first run begins at once, each later one 0.15 seconds
-after the last change. A change during a run ends that as Ctrl-C does. Where another run has the folder, it waits, and runs that the
-launcher starts wait for one of the watch. Behind a run it prints a line `PATH:LINE:COLUMN: fail NAME` for each case that failed. It ends
-at Ctrl-C, with the program and its children; with 1 where the folder has no project file when it starts; with 2 where the program refuses
-the words; and with 3 where the program can't be started.
+The words are those of vunit_run, and `--changed` is added where the program has it. The program is what VUNIT_RUN names; else
+vunit_run in PATH; else the launcher of this checkout. It works in the folder of the project: the first run begins at once, each
+later one 0.15 seconds after the last change. A change during a run ends that as Ctrl-C does. Where another run has the folder,
+it waits, and runs that the launcher starts wait for one of the watch. Behind a run it prints a line `PATH:LINE:COLUMN: fail
+NAME` for each case that failed. It ends at Ctrl-C, with the program and its children. It ends with 1 if the folder has no
+project file when it starts, with 2 if the program refuses the words, and with 3 if the program can't be started.
 """
 
 # Why it is so:
@@ -146,7 +146,7 @@ class Program:
             return
         until, is_killed = time.monotonic() + PATIENCE, False
         self.signal(number)
-        # (those that it has left in its group too; where nobody takes up the ended ones, these stay)
+        # (also the others of its group; if nobody takes up the ended ones, these stay)
         while self.child.poll() is None or self.signal(0):
             if time.monotonic() > until:
                 if is_killed and self.child.poll() is not None:
@@ -157,7 +157,7 @@ class Program:
 
 
 class Known:
-    """What is known of the project: its files, and where its tests are named."""
+    """What the watch knows of the project: its files, and where its tests are named."""
 
     def __init__(self, watch, folder):
         self.watch, self.path = watch, os.path.join(folder, "export.json")
@@ -194,7 +194,7 @@ class Known:
 
 
 class Words:
-    """The words of each run: those that are given, and what the watch adds to a run of tests."""
+    """The words of each run: the given ones, and the words that the watch adds to a run of tests."""
 
     def __init__(self, watch, given, folder):
         self.words, self.results, self.before, self.opens_store = list(given), None, None, True
@@ -235,7 +235,7 @@ class Watch:
         for number in STOPS:
             signal.signal(number, self.end_soon)
         self.changes, self.changed = folder_changes.follow("."), {}
-        # (a request that is none is answered at once; a launcher that builds the program first says so)
+        # (an invalid request is answered at once; a launcher that builds the program first says it)
         self.ask("child-bench", None)
         self.words, self.known, self.turn = Words(self, words, folder), Known(self, folder), Turn()
 
@@ -247,7 +247,7 @@ class Watch:
         os.read(self.told, 4096)
 
     def wait(self, seconds=None):
-        """Waits for a signal, for a change, or for so long."""
+        """Waits for a signal, for a change, or for this time."""
         files = [self.told] if self.changes.file is None else [self.told, self.changes.file]
         limits = [limit for limit in (seconds, self.changes.seconds) if limit is not None]
         ready, _, _ = select.select(files, [], [], min(limits, default=None))
@@ -331,7 +331,7 @@ class Watch:
                 is_told = True
             self.wait(LOOK_AGAIN)
             self.take_changes()
-        # (the run goes by what is there now)
+        # (the run goes by the present state)
         self.changed.clear()
         self.say("")
 

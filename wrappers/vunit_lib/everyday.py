@@ -1,11 +1,11 @@
 #!/usr/bin/env python3
 """Makes the folder everyday: the packages of this folder without what few benches call.
 
-GHDL reads all of a package each time a bench starts, whatever the bench calls of it. So the wrapper hands it a short form of each
-group of packages, unless the bench and what it uses have one of the group's words, which the file everyday/words lists: the names of
-what is left out, and those without which no checker can be had. Some calls can't be told by words: the other forms of everyday checks,
-those that give a place in a file, and those of a name that is common in benches. Where GHDL refuses a bench over short packages, the
-wrapper starts it again over the whole ones.
+GHDL reads all of a package each time a bench starts, whatever the bench calls of it. So the wrapper hands it a short form of
+each group of packages, unless the bench and what it uses have one of the group's words. The file everyday/words lists these:
+the names of the omitted calls, and the names that each bench with checkers has. Some omitted calls do not show by words: other
+forms of everyday checks, calls with a place in a file, and calls whose name is common in benches. Where GHDL refuses a bench
+over short packages, the wrapper starts it again over the whole ones.
 
 A short package has nothing that the whole one hasn't. So a call that GHDL takes over both means the same.
 
@@ -31,7 +31,7 @@ test_runner_setup test_suite run test_runner_cleanup test_runner_watchdog set_ti
 output_path tb_path active_python_runner
 """.split()
 CHECK_WORDS = ["active_clock_edge", "checker_t", "default_checker", "new_checker", "null_checker"]
-# Names that are common in benches: a bench that has one of them seldom means what is left out.
+# Names that are common in benches: a bench with one of them seldom means the omitted call.
 COMMON = ["count", "disable", "enable", "enabled", "find", "get", "len", "replace", "say", "to_string"]
 START = re.compile(r'^( +)(?:impure |pure )?(function|procedure) ("?[\w+=-]+"?)')
 # The parameters of a place, where they are declared and where they are handed on.
@@ -80,7 +80,7 @@ class Package:
         return "\n".join(self.lines[first:end]) + "\n"
 
     def rest(self):
-        """What is no subprogram."""
+        """Everything but subprograms."""
         inside = {at for each in self.subprograms for at in range(each.first, each.end)} | self.seldom
         return "\n".join(line for at, line in enumerate(self.lines) if at not in inside)
 
