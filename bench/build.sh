@@ -1,8 +1,8 @@
 #!/usr/bin/env bash
-# Measures builds of 64, 128 and 256 generated files over children and a disk in memory, beside the calls of the store
-# and of the children alone, and the machine alone on chains of up to 4,096 files. The program of the bench is tried, not proved, and
-# compiled with checks, so that its times are above those of the proved program: what they show is how they grow. Takes
-# some four minutes.
+# Measures builds of 64, 128 and 256 generated files over children and a disk in memory. Beside them it measures the calls of
+# the store and of the children alone, and the machine alone on chains of up to 4,096 files. The program of the bench is tried,
+# not proved, and compiled with checks, so that its times are above those of the proved program: what they show is how they
+# grow. Takes some four minutes.
 set -e
 cd "$(dirname "$0")/.."
 room=$(mktemp -d)

@@ -1,4 +1,4 @@
-"""Writes realistic VHDL of about so many bytes to standard output: generate.py BYTES"""
+"""Writes about this number of bytes of realistic VHDL to standard output: generate.py BYTES"""
 
 import sys
 
@@ -65,7 +65,7 @@ end architecture rtl;
 
 
 def text_of(size, first=0):
-    """So many bytes of VHDL, whose entities are numbered from first on."""
+    """VHDL of this size, whose entities are numbered from first on."""
     parts, number = [], first
     while size > 0:
         parts.append(ENTITY.format(n=number, d=number % 9)[:size])

@@ -44,7 +44,7 @@ def needs_of(at, kind, chance):
 
 
 def make_project(folder, count, kind, compiler=None, size=SIZE, simulator=None):
-    """Makes a project of so many packages of so many bytes each, and gives what each uses."""
+    """Makes a project of packages, by their number and size in bytes, and gives what each uses."""
     chance = random.Random(15)
     all_needs = [needs_of(at, kind, chance) for at in range(count)]
     os.makedirs(os.path.join(folder, "src"))
@@ -128,7 +128,7 @@ def compiled(name, room, *options):
 
 
 def by_turns(rounds, *works):
-    """The medians of what each work gives, over so many rounds of all by turns. A round before them is thrown away."""
+    """The medians of the figures of each work, over a number of rounds of all by turns. A round before them is thrown away."""
     found = [[] for _ in works]
     for at in range(rounds + 1):
         for work, times in zip(works, found):
@@ -162,7 +162,7 @@ class Turns:
 
 
 def take_turns(rounds, *all_turns):
-    """Runs each command once in a round, over so many rounds. A round before them is thrown away."""
+    """Runs each command once in a round, over a number of rounds. A round before them is thrown away."""
     for at in range(rounds + 1):
         for each in all_turns:
             each.run(at > 0)

@@ -1,6 +1,6 @@
-# .ci/run refuses a PROVED of other sources before anything is proved, and ends with the status of rt ci where that fails. Else it tells
-# of the scripts, over the checked program and over the one that rt ci left, which later starts then run. A script that could not be
-# tried has failed, but for those that need GHDL, Slurm or Chromium, which are skipped by name.
+# .ci/run refuses a PROVED of other sources before anything is proved, and ends with the status of rt ci where that fails. Else
+# it tells of the scripts, over the checked program and over the one that rt ci left, which later starts then run. A script that
+# could not be tried has failed, except scripts that need GHDL, Slurm or Chromium, which are skipped by name.
 . "$TOP/tests/support/launcher.sh"
 mkdir -p repo/.ci repo/tests repo/crates/vunit_run/out
 cp "$TOP/.ci/run" repo/.ci

@@ -1,7 +1,7 @@
-# What documents say that the program calls is reached from `main`, and what they say that tests alone call isn't: by phrases, by the
-# steps in TOUR and by the rows of crates in PROMISES, as tests/support/document_calls.py says. Then wrong sentences and rows are planted
-# in copies of the pages, over sources with a function that nothing calls; each must be named. Prints what isn't so. Ends with 0, with
-# 1 where something isn't, and with 77 where python3 is missing.
+# `main` reaches each function that documents say the program calls, and none that they say tests alone call. Documents say it
+# by phrases, by the steps in TOUR and by the rows of crates in PROMISES: see tests/support/document_calls.py. Then wrong
+# sentences and rows are planted in copies of the pages, over sources with a function that nothing calls; each must be named.
+# Prints what isn't so. Ends with 0, with 1 where something isn't, and with 77 where python3 is missing.
 room=$PWD
 cd -- "${TOP:-$(dirname -- "$0")/..}" || exit 1
 . tests/support/needs.sh
@@ -19,7 +19,7 @@ done
 cp -R crates/order/src "$room/crates/order" || exit 1
 printf '%s\n' 'fn never_called() -> u64 {' '    0' '}' >>"$room/crates/order/src/ordering.rt"
 
-# plant WANTED PAGE EDIT: where sed has edited a page, WANTED is all that is printed
+# plant WANTED PAGE EDIT: after an edit of a page by sed, exactly WANTED is printed
 cases=0
 plant() {
     cases=$((cases + 1))

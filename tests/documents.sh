@@ -1,9 +1,9 @@
-# No run of twelve words stands in two pages of README.md and docs/, so that each fact has one home: fenced blocks, which are code
-# and what is printed, and the project's sentence, which is quoted by lines with `>`, don't count, nor do the pages that are made of
-# comments in the sources, whose words have their home there. Words between backticks count as one. Each link of these pages, and
-# each page that a script names, leads somewhere; ARCHITECTURE has a row for each crate of crates.txt, in that order, and says how many there are;
-# and README names no public function that the program doesn't call. All pages, with CHANGES.md, have at most 70,000 words, and those by
-# hand 55,000. Prints what isn't so. Ends with 0, with 1 where something isn't, and with 77 where python3 is missing.
+# No run of twelve words stands in two pages of README.md and docs/, so that each fact has one home. Not counted are fenced
+# blocks, the project's sentence in lines with `>`, and pages that are made of comments in the sources. Words between backticks
+# count as one. Each link of these pages, and each page that a script names, leads somewhere. ARCHITECTURE has a row for each
+# crate of crates.txt, in that order, and their number. README names no public function that the program doesn't call. All
+# pages, with CHANGES.md, have at most 70,000 words, and those by hand 55,000. Prints what isn't so. Ends with 0, with 1 where
+# something isn't, and with 77 where python3 is missing.
 cd -- "${TOP:-$(dirname -- "$0")/..}" || exit 1
 . tests/support/needs.sh
 needs python3

@@ -1,7 +1,7 @@
 #!/bin/sh
-# wrappers/over_cache over GHDL's wrappers: clones and branches start GHDL for no file that somebody has compiled, tests are restored, and
-# nothing is a hit that rests on something else; where a compiler of C is there, some of it with the short way of a hit. And the session
-# of docs/user/CACHE.md. Skipped where ghdl isn't there, or isn't the one that is supported.
+# wrappers/over_cache over GHDL's wrappers: clones and branches start GHDL for no file that somebody has compiled, tests are
+# restored, and no hit rests on something else. With a compiler of C some of it runs with the short way of a hit. And the
+# session of docs/user/CACHE.md. Skipped where ghdl isn't there, or isn't the one that is supported.
 . "$TOP/tests/support/ghdl_parts.sh"
 cp -R "$TOP/wrappers" wrappers
 rm -f wrappers/over_cache_hit

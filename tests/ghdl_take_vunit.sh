@@ -1,6 +1,6 @@
 #!/bin/sh
-# wrappers/take_vunit over a tree that is made in the layout of VUnit, and over a real VUnit where pip can fetch one: what it copies
-# and refuses, and the projects of VUnit's users over the copy. Skipped where ghdl isn't there, or isn't the one that is supported.
+# wrappers/take_vunit over a made tree in the layout of VUnit, and over a real VUnit if pip can fetch one: what it copies and
+# refuses, and the projects of VUnit's users over the copy. Skipped where ghdl isn't there, or isn't the one that is supported.
 . "$TOP/tests/support/ghdl_parts.sh"
 parts take_vunit
 if timeout 60 python3 -m pip download -q --no-deps --disable-pip-version-check -d fetched vunit_hdl >pip.log 2>&1; then

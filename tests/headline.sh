@@ -1,7 +1,8 @@
-# docs/proof/HEADLINE.md goes through the fields of RunsAs, and names exactly the definitions that they name, and those that these
-# name: at most 60, in the order of specs, each with its file, an example and what would make the claim empty, and with a link
-# into DEFINITIONS.md where it names more. The lists are computed from specs. The fields `recorded` and `right` of RunsTests come last, and
-# what they name themselves. Prints what differs. Ends with 0, with 1 where something does, and with 77 where python3 is missing.
+# docs/proof/HEADLINE.md goes through the fields of RunsAs, and names exactly the definitions that these name, directly or in
+# one step. They are at most 60, in the order of specs, each with its file, an example and what would make the claim empty, and
+# with a link into DEFINITIONS.md if it names more. The lists are computed from specs. The fields `recorded` and `right` of
+# RunsTests come last, and what they name themselves. Prints what differs. Ends with 0, with 1 where something does, and with 77
+# where python3 is missing.
 cd -- "${TOP:-$(dirname -- "$0")/..}" || exit 1
 . tests/support/needs.sh
 needs python3

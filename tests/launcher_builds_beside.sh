@@ -45,7 +45,7 @@ same "without git, a proof" "$status $(copies) $(ls tmp)" "0 repo/crates.txt  "
 echo '// BROKEN' >"$main"
 try "$launcher" -c :
 same "without git, a build that fails" "$status $(copies) $(ls tmp)" "126 repo/crates.txt  "
-# (where there is no folder for the time either)
+# (if there is no temporary folder either)
 TMPDIR=$PWD/tmp/missing
 echo '// fourth' >"$main"
 try "$launcher" -c "$show"

@@ -1,5 +1,5 @@
-# The first start builds a checked program, later ones only run it; words, input and status are the program's, and one line says what
-# runs. bin/prove proves and builds what later starts run without a word.
+# The first start builds a checked program, and later ones only run it. Words, input and status are the program's, and one line
+# says what runs. bin/prove proves and builds the program that later starts run without a word.
 . "$TOP/tests/support/launcher.sh"
 
 repo/bin/prove --sum 2>/dev/null

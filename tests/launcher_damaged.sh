@@ -1,5 +1,5 @@
-# A program that isn't as it was built is built again and never run, whatever lies in its place; and a program is on the disk before
-# it gets its name.
+# A changed program is built again and never run, whatever lies in its place; and a program is on the disk before it gets its
+# name.
 . "$TOP/tests/support/launcher.sh"
 . "$TOP/tests/support/needs.sh"
 needs strace

@@ -35,7 +35,7 @@ shows "a file less" "// first" 6
 echo 'Handles allowed: none.' >repo/HANDLES
 shows "other handles" "// first" 7
 
-# a script that builds otherwise builds anew what is checked, and leaves alone what is proved
+# after a change of a building script the checked program is built anew, and the proved one stays
 echo '# otherwise' >>repo/bin/checked.sh
 shows "another script" "// first" 8
 prove

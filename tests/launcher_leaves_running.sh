@@ -27,7 +27,7 @@ echo '// sixth' >"$main"
 same "the programs that are left" "$(ls repo/out | grep -c ^checked-)" 3
 [ ! -e "$first" ] || { echo "the ended program is still there"; exit 1; }
 
-# a proved program stays, however many are checked, and the other way about
+# a proved program stays, however many are checked, and the reverse
 prove
 proved=$(cd repo/out && ls -d proved-*)
 for text in seventh eighth ninth tenth; do

@@ -1,5 +1,5 @@
-# The launcher starts through links, below odd folders, without PATH, beside another command that is named rt; it refuses links
-# among the sources, writes to no folder that isn't git's, and has writes over a limit fail.
+# The launcher starts through links, below odd folders, without PATH, beside another command that is named rt. It refuses links
+# among the sources, writes only to git's folders, and has writes over a limit fail.
 . "$TOP/tests/support/launcher.sh"
 . "$TOP/tests/support/needs.sh"
 
@@ -81,7 +81,7 @@ for name in 'a\b' 'a\nb\' 'a  b' 'a"b'"'"'$(c)' '-n' 'a%sb' "$(printf 'a\351b')"
     rm -rf "./$name"
 done
 
-# what editors leave is no source, and not looked at
+# editors' backup files are not sources, and not looked at
 before=$(builds)
 echo '// BROKEN' >"$main~"
 echo '// BROKEN' >"${main%/*}/.main.rt.swp"

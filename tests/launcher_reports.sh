@@ -1,5 +1,5 @@
-# Each start has a number of its own, and VUNIT_REPORT=FILE has a report of the run, with the status of the program; a start that
-# is killed leaves a report of a run that was cut off.
+# Each start has a number of its own, and VUNIT_REPORT=FILE has a report of the run, with the status of the program. A killed
+# start leaves a report of a run that was cut off.
 . "$TOP/tests/support/needs.sh"
 needs python3 pgrep
 . "$TOP/tests/support/launcher.sh"

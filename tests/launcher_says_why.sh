@@ -1,4 +1,4 @@
-# Where there is no program of the present sources, the status is 126, or 127 without rt, and never one of the program's.
+# Without a program of the present sources, the status is 126, or 127 without rt, and never one of the program's.
 . "$TOP/tests/support/launcher.sh"
 . "$TOP/tests/support/needs.sh"
 

@@ -1,4 +1,4 @@
-# Where there is no space left, a start and a proof say in which folder, and end with 126; with space the next ones are right.
+# Without space, a start and a proof say in which folder, and end with 126; with space the next ones are right.
 . "$TOP/tests/support/launcher.sh"
 . "$TOP/tests/support/needs.sh"
 if ! unshare -m true 2>/dev/null; then
@@ -22,7 +22,7 @@ for size in 16k 900k; do
             mkdir -p "$folder"
             kept=
             if [ "$folder" = tmp ]; then
-                # (it is for where there are no files of git's)
+                # (it is for a repository without git's files)
                 rm -rf kept
                 mv repo/.git kept
                 export TMPDIR=$PWD/tmp
@@ -33,7 +33,7 @@ for size in 16k 900k; do
         done
     done
 done
-# with git's files a small TMPDIR is no hindrance
+# with git's files a small TMPDIR does not matter
 mount -t tmpfs -o size=16k none tmp
 TMPDIR=$PWD/tmp repo/bin/vunit_run -c "$show" >said 2>/dev/null
 same "a small TMPDIR" "$(cat said)" "// first"
@@ -41,7 +41,7 @@ TMPDIR=$PWD/tmp repo/bin/prove 2>/dev/null
 umount tmp
 repo/bin/vunit_run -c "$show_kind" >said 2>&1
 same "the start after all" "$(cat said)" "kind: proved"
-# a stamp that can't be written is no hindrance either
+# a stamp that can't be written does not matter either
 rm -f repo/out/current
 mount --bind repo/out repo/out
 mount -o remount,bind,ro repo/out

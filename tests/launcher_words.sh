@@ -1,5 +1,5 @@
-# -h, --help and --version are answered before the program is reached: nothing is built or waited for, and the input isn't read. They
-# count as words of their own before `--` that are no option's value.
+# -h, --help and --version are answered before the program is reached: nothing is built or waited for, and the input isn't read.
+# They count as words of their own before `--`, except as values of options.
 . "$TOP/tests/support/launcher.sh"
 . "$TOP/tests/support/needs.sh"
 needs flock
@@ -75,7 +75,7 @@ reaches '-h ' ' --help' 'a -h b'
 reaches -x
 reaches -p
 
-# what is known of the proof
+# the state of the proof
 version_has() {
     try "$launcher" --version
     has "--version" "$status

@@ -1,7 +1,8 @@
-# The layers of docs/ARCHITECTURE.md hold: the first word of each crate's name is a layer; crates.txt lists the crates in the order of the
-# layers; a crate uses only crates of earlier lines, in its own layer or a lower one, in its tests too. There are at most 60 crates, 45 in
-# the program, and 12 in the longest chain of the program. Then wrong lines are planted in copies of crates.txt; each must be named.
-# Prints what isn't so. Ends with 0, with 1 where something isn't, and with 77 where python3 is missing.
+# The layers of docs/ARCHITECTURE.md hold. The first word of each crate's name is a layer, and crates.txt lists the crates in
+# the order of the layers. A crate, and its tests, uses only crates of earlier lines, in its own layer or a lower one. There are
+# at most 60 crates, 45 in the program, and 12 in the longest chain of the program. Then wrong lines are planted in copies of
+# crates.txt; each must be named. Prints what isn't so. Ends with 0, with 1 where something isn't, and with 77 where python3 is
+# missing.
 cd -- "${TOP:-$(dirname -- "$0")/..}" || exit 1
 . tests/support/needs.sh
 needs python3

@@ -3,7 +3,7 @@
 # the crates that write messages are compared with the code in the first column of its tables, where words in capitals and numbers vary:
 #
 # - each literal of two or more words stands in one text, or in as many as SEVERAL says, since several messages share it;
-# - each text consists of such literals, and of shorter ones of these crates; no text stands there twice.
+# - each text consists of such literals, and of shorter ones of these crates; no text stands in two rows.
 #
 # A text that ends with ` ..` is the beginning of its message. Prints what is not so. Ends with 0, with 1 if something is not so, and
 # with 77 if python3 is missing.

@@ -1,8 +1,8 @@
-# Each must-fail edit fits its crate, which shows without a proof: the crate is in crates.txt; the edit changes a file of its src, since
-# one of a definition or a proof shows nothing; and each `old:` text stands in that file exactly once, after the changes above it. The
-# gate tries at most 40 of them, in at most ten crates, since the first of a crate proves it anew: those of crates/NAME/must-fail. The
-# others lie in tests/edits/NAME. Prints what isn't so. Ends with 0, with 1 where something isn't, and with 77 where python3 is
-# missing.
+# Each must-fail edit fits its crate, without a proof. The crate is in crates.txt. The edit changes a file of its src, since one
+# of a definition or a proof shows nothing. Each `old:` text stands in that file exactly once, after the changes above it. The
+# gate tries at most 40 of them, in at most ten crates, since the first of a crate proves it anew: those of
+# crates/NAME/must-fail. The others lie in tests/edits/NAME. Prints what isn't so. Ends with 0, with 1 where something isn't,
+# and with 77 where python3 is missing.
 cd -- "${TOP:-$(dirname -- "$0")/..}" || exit 1
 . tests/support/needs.sh
 needs python3

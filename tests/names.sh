@@ -1,9 +1,9 @@
 #!/bin/sh
-# Every name of this repository's specs that a public clause cites has an entry in docs/proof/HEADLINE.md or DEFINITIONS.md: it
-# stands there in bold, between backticks, in an item or below a heading that names a file of specs. Public are the exported
-# functions and the traits of the library crates, but for those of tests, benches, objects in memory and the generated project. Prints the names
-# that are missing. And no word comes back that has been given up: the list says which, where, and what is said instead. Ends with 0,
-# with 1 where a name is missing or a word has come back, and with 77 where python3 is missing.
+# Every name of this repository's specs that a public clause cites has an entry in docs/proof/HEADLINE.md or DEFINITIONS.md: in
+# bold, between backticks, in an item or below a heading that names a file of specs. Public are the exported functions and the
+# traits of the library crates, but for those of tests, benches, objects in memory and the generated project. Prints the names
+# that are missing. And no abandoned word comes back: the list has each with its replacement. Ends with 0, with 1 where a name
+# is missing or a word has come back, and with 77 where python3 is missing.
 cd -- "${TOP:-$(dirname -- "$0")/..}" || exit 1
 . tests/support/needs.sh
 needs python3
@@ -12,8 +12,8 @@ import pathlib, re, sys
 
 crates = {p.parent.parent.name: p for p in pathlib.Path("crates").glob("*/src/lib.rt")}
 
-# Words that have been given up, each with what is said instead and where: crates by name or by layer, `*` for all, and behind `but` the
-# identifiers and crates that mean something else by it. A word is a part of an identifier, in snake or in camel case.
+# Abandoned words, each with its replacement and its crates, by name or by layer, `*` for all. Behind `but` stand identifiers
+# and crates that mean something else by it. A word is a part of an identifier, in snake or in camel case.
 OLD = """
 gate gates: * -> commit byte
 seat seats seated: * -> record handle

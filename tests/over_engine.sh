@@ -1,7 +1,7 @@
 #!/bin/sh
-# wrappers/over_engine over engines that are scripts of this test: whatever these print, change, cut or end with, a command's
-# answer counts alone and only whole; whatever ends the wrapper leaves nothing behind; and the program over it builds what it
-# builds without. No engine is needed.
+# wrappers/over_engine over engines that are scripts of this test. Whatever these print, change, cut or end with, only a
+# command's whole answer counts. Whatever ends the wrapper leaves nothing behind. The program over it builds the same as without
+# it. No engine is needed.
 . "$TOP/tests/support/needs.sh"
 needs python3 flock setsid
 PYTHONPATH=$TOP/tests/support

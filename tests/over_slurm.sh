@@ -1,6 +1,6 @@
 #!/bin/sh
-# wrappers/over_engine over a Slurm that this test brings up on loopback, with two nodes of 32 slots: the program builds over it
-# what it builds here, a node is lost while compilers run on it, and whatever ends the wrapper leaves nothing in the queue.
+# wrappers/over_engine over a Slurm that this test brings up on loopback, with two nodes of 32 slots. The program builds the
+# same over it as here, a node is lost while compilers run on it, and whatever ends the wrapper leaves nothing in the queue.
 # Where ghdl is there, its examples are compiled and run over it. Skipped where Slurm, munge or root is missing.
 . "$TOP/tests/support/needs.sh"
 needs python3

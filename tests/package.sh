@@ -1,6 +1,6 @@
-# bin/package packs the program that the gate tried, and refuses any other; the same bytes at each call. The packages run as a user who
-# may not read the repository, without HOME, from a folder that can't be written, without the toolchain. bin/package --check makes a
-# package again and refuses one with one other byte.
+# bin/package packs the program that the gate tried, and refuses any other; the same bytes at each call. The packages run as a
+# user who may not read the repository, without HOME, from a read-only folder, without the toolchain. bin/package --check makes
+# a package again and refuses one with one other byte.
 . "$TOP/tests/support/launcher.sh"
 . "$TOP/tests/support/needs.sh"
 needs python3 gzip tar

@@ -1,8 +1,8 @@
 #!/bin/sh
-# The pictures in README.md are of real runs, and README shows both. docs/pictures/make makes run.svg anew, and only the seconds of the
-# failed test may differ. docs/pictures/make_page makes a picture as wide and as high as page.png; its pixels differ with the times of
-# the run, and with Chromium. That is not tried where chromium is missing, or ghdl with the code generator mcode. Skipped where python3
-# is missing.
+# The pictures in README.md are of real runs, and README shows both. docs/pictures/make makes run.svg anew, and only the seconds
+# of the failed test may differ. docs/pictures/make_page makes a picture of the size of page.png; its pixels differ with the
+# times of the run, and with Chromium. That is not tried where chromium is missing, or ghdl with the code generator mcode.
+# Skipped where python3 is missing.
 set -e
 . "$TOP/tests/support/needs.sh"
 needs python3

@@ -1,6 +1,6 @@
 #!/bin/sh
-# As many compilers run at once as -p says, in order and each after what it depends on; whichever ends first makes room for
-# the next; whatever their ends, the text is that of one at a time.
+# As many compilers run at once as -p says, in order and each after its dependencies. Whichever ends first makes room for the
+# next. Whatever their ends, the text is that of one at a time.
 . "$TOP/tests/support/needs.sh"
 needs python3
 PYTHONPATH=$TOP/tests/support exec python3 -B - <<'END'
@@ -8,8 +8,8 @@ import os, sys
 
 from trial import build_text, end, environment, expect, fail, package, project, toml, write
 
-# Waits for files of other compilers, which it looks for at most so many times, and leaves files of its own when it begins
-# and when it ends. A line of its source says what it waits for: `-- waits NAME ..`.
+# Waits for files of other compilers, up to a number of looks, and leaves files of its own when it begins and when it ends. A
+# line of its source says what it waits for: `-- waits NAME ..`.
 COMPILER = """cat >request.$$
 name=$(grep -a -o 'package [a-z0-9]* is' request.$$ | cut -d ' ' -f 2)
 date +%s%N >begin.$name

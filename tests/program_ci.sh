@@ -1,5 +1,5 @@
 #!/bin/sh
-# wrappers/vunit_ci: a warning makes a green run red, wherever it stands in the stream; all else is handed on as it is.
+# wrappers/vunit_ci: a warning makes a green run red, wherever it stands in the stream; everything else is handed on unchanged.
 . "$TOP/tests/support/needs.sh"
 needs python3
 PYTHONPATH=$TOP/tests/support exec python3 -B - <<'END'
@@ -43,7 +43,7 @@ for kinds, text, words in (("not-analysed, not-simulated", ONE, ()), ("not-analy
     project("project", {"vunit.toml": text, "t.vhd": BENCH})
     run(kinds, 1, *words, said=f"vunit_ci: failed for warnings: {kinds}")
     run(f"{kinds}, allowed", 0, *[f"--allow={each}" for each in kinds.split(", ")], *words)
-# (a payload of one byte is no record)
+# (a payload of one byte does not count as a record)
 damaged = b"\1VUNITREC\3" + b"\1" + bytes(7) + b"\1" + b"\1\0\0\0" + b"x" + b"\0"
 kinds = "unread-records"
 project("project", {"vunit.toml": TOOLS + ONE, "t.vhd": BENCH, "vunit_out/store_a": damaged})
@@ -173,7 +173,7 @@ for version, generator, told in ("9.9.9", "llvm", True), ("2.0.0", "mcode", Fals
     if (ran.returncode, ran.stdout, ran.stderr) != (0, PASSED, wanted):
         fail(f"GHDL {version}", f"it is {ran}")
 
-# An interrupt before the program is started ends both at once, and nothing is said of the wrapper.
+# An interrupt before the program is started ends both at once, without a message of the wrapper.
 write("other", {"ghdl": "#!/bin/sh\n: >asked\nexec sleep 60\n"})
 os.chmod("other/ghdl", 0o755)
 project("project", {"vunit.toml": TOOLS + ONE, "t.vhd": BENCH})

@@ -1,5 +1,5 @@
-# Files are compiled after all that they depend on, and again exactly where they changed, or what was made of one of these. What is
-# wrong with names and order is refused before a child is started.
+# Files are compiled after all that they depend on, and again exactly where they changed, or what was made of one of these.
+# Faults of names and order are refused before a child is started.
 . "$TOP/tests/support/program.sh"
 
 # Prints a package, and before it what stands for its context.
@@ -84,7 +84,7 @@ lib, b.vhd
 lib, c.vhd
 Listed 3 files" -f
 
-# A context gives its libraries to those that refer to it.
+# A context gives its libraries to the units that refer to it.
 project c.vhd 'context ctx is library other; use other.q.all; end context ctx;\n' \
     w.vhd 'context work.ctx; package w is constant k : integer := other.q.c; end;\n'
 libraries lib:c.vhd,w.vhd other:q.vhd >vunit.toml

@@ -1,8 +1,8 @@
 #!/bin/sh
-# What the program asks the system of its store, call by call: a first build, a run with nothing to do, one record more, a store
-# that is emptied, one that is compacted as it is opened, and one of the older form. What a file holds is on the device (`sync`, `datasync`) before the
-# next write says that it is; both files are synced and their kept pages dropped (`advise`) before anything is read of
-# them; and a new file is in its folder, and that in the one around it, before the first write.
+# The calls of the system for the program's store, one by one: a first build, a run with nothing to do, one record more, a store
+# that is emptied, one that is compacted as it is opened, and one of the older form. The content of a file is on the device
+# (`sync`, `datasync`) before the next write says it. Both files are synced and their kept pages dropped (`advise`) before
+# anything is read. A new file is in its folder, and that in the one around it, before the first write.
 . "$TOP/tests/support/needs.sh"
 needs python3 strace
 PYTHONPATH=$TOP/tests/support exec python3 -B - <<'END'
@@ -147,8 +147,8 @@ check("a store that is emptied", [*OPENED, f"read a {HEAD} at 0", "cut b to 0", 
 if size("a") != HEAD + second - first + LESS or size("b") != 0:
     fail("a store that is emptied", f"its sides have {size('a')} and {size('b')} bytes")
 
-# A long text that was edited twice leaves two records of it that count no more, with over a mebibyte and more than the third:
-# the next opening writes the other side anew, with the last record alone.
+# A long text that was edited twice leaves two dead records of it, with over a mebibyte and more than the third. The next
+# opening writes the other side anew, with the last record alone.
 LENGTH = 700_000
 
 

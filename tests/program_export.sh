@@ -46,7 +46,7 @@ write("e.json", '{"files": [], "export_format_version": "of another program"' + 
 export("e.json", "no such test")
 holds("e.json", WANTED.replace(WANTED[WANTED.index('"tests":['):], '"tests":[]}\n'))
 
-# What can't be written is a fault, leaves what was there, and leaves nothing beside it.
+# A failed write is a fault, changes no existing file, and leaves nothing beside it.
 os.mkdir("folder")
 for path, cause in [("folder", "write: Is a directory (os error 21)"), ("tb.vhd/e.json", "stat: Not a directory (os error 20)"),
                     ("/dev/full", "write: No space left on device (os error 28)")]:

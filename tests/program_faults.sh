@@ -103,7 +103,7 @@ write("project", {"p.vhd": FILES["p.vhd"] + "-- more\n"})
 shutil.copytree("project", "edited")
 
 OPEN, MAKE, START = "?open,openat", "?mkdir,mkdirat", "clone,?clone3,?vfork"
-# (what is asked of the disk by each call of the system)
+# (the calls of the system for the disk, one by one)
 OF_DISK = {MAKE: "make", OPEN: "open|sync", "flock": "lock", "ftruncate": "cut", "fsync": "sync", "pread64": "read", "pwrite64": "write",
            "fdatasync": "sync", "statx": "open|stat|write|cut"}
 for path in "vunit.toml", "p.vhd":

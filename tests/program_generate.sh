@@ -1,8 +1,8 @@
-# A project is generated, built, edited, built again and tested, over a tree and a disk in memory: what is said counts what the
-# compiler that is part of the program was started for. Slots come before files, and files before all other modes.
+# A project is generated, built, edited, built again and tested, over a tree and a disk in memory. The text counts the starts of
+# the built-in compiler. Slots come before files, and files before all other modes.
 . "$TOP/tests/support/program.sh"
 
-# Prints the lines of a project of so many packages, whose second build compiled so many files.
+# Prints the lines of a project of a number of packages, by the number of files that its second build compiled.
 said() {
     printf 'files %s\nfirst build compiled %s\nsecond build compiled %s\ntests passed 2 of 2\n' "$(($1 + 1))" "$(($1 + 1))" "$2"
 }
@@ -34,7 +34,7 @@ if [ -e out.xml ] || [ -e out.json ] || [ -e vunit_out/store_a ] || [ -e vunit_o
     failures=$((failures + 1))
 fi
 
-# a project in the present folder is neither read nor built, and its store stays as it is
+# a project in the present folder is neither read nor built, and its store does not change
 project vunit.csv 'lib,a.vhd\n' a.vhd 'entity a is end;\n'
 expect "a build of a project" 0 'Compiling into lib: a.vhd passed
 Compile passed' --compile

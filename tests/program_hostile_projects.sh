@@ -85,7 +85,7 @@ tangled = "**/d/" * 201 + "x.vhd"
 check("a path that isn't deep enough", 1, f"vunit_run: nothing matches {tangled}\n", toml({"lib": [tangled]}))
 check("a thousand patterns", 0, listing, toml({"lib": ["*.vhd"] * 1000}))
 
-# Libraries that have more files together than may be: what is wrong with the last of them comes first.
+# Libraries that together exceed the greatest number of files: a fault of the last of them comes first.
 project("project", {f"{at}.vhd": "" for at in range(2000)})
 MANY = "vunit_run: over limit: files 4096\n"
 for count in 3000, 6000:
@@ -93,8 +93,8 @@ for count in 3000, 6000:
     check(f"{count} libraries of 2,000 names", 5, MANY, libraries)
     check(f"{count} libraries, and one twice", 1, "vunit_run: library l0 stands twice\n", libraries + '[[library]]\nname="l0"\nfiles=["*"]\n')
 
-# As many names as are listed, and one more; names that begin with a dot don't count, nor does what the program made.
-# Stars take as many times longer over so many names as there are more of them than in another project.
+# As many names as are listed, and one more; names that begin with a dot don't count, nor does what the program made. The time
+# of stars grows with the number of names, compared with another project.
 COUNTS = {"fewer": 16384, "project": 65536}
 for folder, count in COUNTS.items():
     project(folder, {"a.vhd": "", "vunit.toml": "", ".hidden": "", "vunit_out/x": ""})
@@ -127,7 +127,7 @@ os.mkdir("project/e.vhd")
 expect("a link to a device, one to a folder, a pipe and a folder aren't listed", "project", 0, LISTED, "-f", seconds=SECONDS)
 os.symlink("a.vhd", "project/f.vhd")
 expect("a link to a file is listed", "project", 0, "lib, a.vhd\nlib, f.vhd\nListed 2 files\n", "-f", seconds=SECONDS)
-# Names that were chosen to meet in the kit's hasher: they are looked up in n log n of time all the same.
+# Names that were chosen to meet in the kit's hasher: they are looked up in n log n of time nevertheless.
 
 
 def four_letters():

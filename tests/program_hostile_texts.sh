@@ -1,5 +1,5 @@
 #!/bin/sh
-# Sources that are as long, as deep or as many as may be: what is said of each is known beforehand, in time that grows as the
+# Sources of the greatest length, depth or number. The answer for each is known beforehand, and comes in time that grows as the
 # text does, and in at most 100 bytes of memory for each of its bytes.
 . "$TOP/tests/support/needs.sh"
 needs python3
@@ -39,7 +39,7 @@ def nested(depth, ends):
 grows("nested generates", lambda size: accepted(nested(size, size)), (25000, 100000), "-f")
 grows("nested generates, of which one has no end", lambda size: refused(nested(size, size - 1), "design unit not ended", 17), (25000, 100000), "-f")
 
-# A byte of value 0 is no blank, and begins no unit; within a unit it is passed over.
+# A byte of value 0 is not a blank, and begins no unit; within a unit it is passed over.
 grows("bytes of value 0", lambda size: refused("\0" * size, "no design unit", 0), (LONG // 4, LONG), "-f")
 
 

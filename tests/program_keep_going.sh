@@ -67,7 +67,7 @@ neither
 Compile failed" --compile
 started 1
 
-# What a compiler prints and how it ends: a compiler's text, and what is said.
+# The output and the end of a compiler: its text, and the program's.
 shows() {
     name=$1
     said=$3

@@ -124,7 +124,7 @@ for at in range(KILLS):
     records = check_store(name)
     if not words and before.keys() - latest_of(records).keys():
         fail(name, f"lost the records of {before.keys() - latest_of(records).keys()}")
-    # by turns: as it is, edited back, and with another edit
+    # by turns: unchanged, edited back, and with another edit
     write("project", [{}, {path: FILES[path] for path in edits if path in FILES}, edited("src/p5.vhd", at)][at % 3])
     check_run(name, "requests")
     reap()
@@ -164,8 +164,9 @@ killed.kill()
 killed.wait()
 check_run("while compilers of a killed program run", "requests")
 reap()
-# Runs that are killed in the middle of their tests leave simulators running. The next run's verdicts are those of its own: by turns
-# what was left passed and it has no results, and the other way about. What still runs writes nothing before the next run is over.
+# Runs that are killed in the middle of their tests leave simulators running. The next run has its own verdicts. By turns the
+# killed one left a pass and this run has no results, or the reverse. What still runs writes nothing before the next run is
+# over.
 CASES = [f"c{at}" for at in range(8)]
 calls = "".join(f'x{at} <= run("{case}");\n' for at, case in enumerate(CASES))
 more = f"simulator = {json.dumps([sys.executable, '-B', os.path.join(os.environ['TOP'], 'tests', 'support', 'simulator.py')])}\n"
@@ -200,7 +201,7 @@ for at in range(6):
         fail("kills of tests", f"kill {at} didn't find the run at work")
     expect(f"tests after kill {at}", "tested", status, test_text(word), "-p", "3", env=by(own, "plan"))
     for pid in os.listdir("/proc"):
-        # (what was left is ended, so that it can't write into a later run)
+        # (the remaining child is ended, so that it can't write into a later run)
         try:
             if pid.isdigit() and os.readlink(f"/proc/{pid}/cwd") == os.path.realpath("tested"):
                 os.kill(int(pid), 9)

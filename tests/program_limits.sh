@@ -1,17 +1,17 @@
 # Each limit is kept on both sides, and one that is passed is named with status 5.
 . "$TOP/tests/support/program.sh"
 
-# Prints so many lines of a project file.
+# Prints this number of lines of a project file.
 lines() {
     awk -v count="$1" 'BEGIN { for (at = 1; at <= count; at++) print "lib,f" at ".vhd" }'
 }
 
-# Makes an empty design file of so many bytes.
+# Makes an empty design file of this size in bytes.
 blank() {
     awk -v count="$2" 'BEGIN { line = sprintf("%1023s\n", ""); for (; count >= 1024; count -= 1024) printf "%s", line; printf "%" count "s", "" }' >"$1"
 }
 
-# Prints one line of a project file for each of so many libraries, all with one path.
+# Prints one line of a project file for each of a number of libraries, all with one path.
 libraries() {
     awk -v count="$1" 'BEGIN { for (at = 1; at <= count; at++) print "lib" at ",z.vhd" }'
 }

@@ -57,7 +57,7 @@ TWO = {
 check(0, listed(b"lib.tb_z.z", b"lib.tb_a.one", b'lib.tb_a.a "b"', b"lib.tb_b.all"), ["-l"], TWO)
 check(0, b"lib, a.vhd\nlib, z.vhd\nListed 2 files\n", ["-f"], TWO)
 
-# What is wrong with a bench is named, the first one in project and unit order.
+# A fault of a bench is named, the first one in project and unit order.
 PLAIN = b"entity t is generic (runner_cfg : string); end;\n"
 ARCHITECTURE = b"architecture %s of t is begin end;\n"
 for text, vhdl in [
@@ -76,7 +76,7 @@ for text, vhdl in [
         sys.exit("a report of refused benches is written")
     check(0, b"lib, t.vhd\nListed 1 files\n", ["-f"], files)
 
-# Such a bench is compiled all the same.
+# Such a bench is compiled nevertheless.
 shutil.rmtree("project")
 os.mkdir("project")
 for path, text in ("vunit.csv", b"lib,t.vhd\n"), ("t.vhd", PLAIN + ARCHITECTURE % b"a" + ARCHITECTURE % b"b"):

@@ -1,6 +1,6 @@
 #!/bin/sh
-# The program in ever more room, from where it just starts to where a run ends well, in each mode: it ends well, or with status 4
-# and its line, and puts nothing. No report is left by halves, and the next run in ample room ends well over what is there.
+# The program in ever more room, from where it just starts to where a run ends well, in each mode: it ends well, or with status
+# 4 and its line, and puts nothing. No report is left by halves, and the next run in ample room ends well over the files there.
 . "$TOP/tests/support/needs.sh"
 needs python3
 PYTHONPATH=$TOP/tests/support exec python3 -B - <<'END'

@@ -1,6 +1,6 @@
 #!/bin/sh
-# What standard error gets while a run goes on and once it has ended: a line for each failure as it comes, the names of failed
-# tests, counts at a fault, warnings, and causes with their places. Standard output and the status are as without them.
+# The lines on standard error during a run and after it: one for each failure as it comes, the names of failed tests, counts at
+# a fault, warnings, and causes with their places. Standard output and the status are as without them.
 . "$TOP/tests/support/needs.sh"
 needs python3
 PYTHONPATH=$TOP/tests/support exec python3 -B - <<'END'
@@ -194,7 +194,7 @@ for pattern, why in (("/a.vhd", "an absolute path matches nothing: paths are bel
     write("linked", {"vunit.toml": tools() + toml({"lib": [pattern]})})
     told(f"the pattern {pattern}", "linked", f"vunit_run: {pattern}: {why}\n" if why else "", "--compile", status=1, out=f"vunit_run: nothing matches {pattern}\n")
 
-# A project file that is no TOML, and values that are wrong.
+# A project file with a TOML fault, and values that are wrong.
 for text, place in (('a = 1\nb = [1\nc = 2\n', "3:1: missing comma between array elements, expected `,` or `]`"),
                     ('[[library]\n', "1:11: unclosed array table, expected `]]`"), ('a = 1\na = 2\n', "2:1: duplicate key"),
                     ('  x = "a\n', None)):
@@ -242,7 +242,7 @@ told("a duplicate in one file", "sources", "a.vhd:1:9: lib.twice is declared her
 write("sources", {"a.vhd": "-- 1\nuse work.b.all;\npackage a is\nend;\n", "b.vhd": "library lib;\nuse\n  lib.a.all;\npackage b is end;\n"})
 told("a cycle", "sources", "a.vhd:2:5: use of lib, b.vhd\nb.vhd:3:3: use of lib, a.vhd\n", status=1, out="vunit_run: cycle\n  lib, a.vhd\n  lib, b.vhd\n")
 
-# Words that are no command line.
+# Invalid command lines.
 HELP = "vunit_run: --help says what each option does\n"
 for words, line in ((["--compil"], "wrong word --compil (did you mean --compile?)"), (["-lz"], "wrong word -lz"),
                     (["a", "b", "--fail_fast", "c", "-x"], "wrong word --fail_fast (did you mean --fail-fast?)"),
@@ -288,7 +288,7 @@ for place, store in ("a", lambda bytes: (bytes, b"")), ("b", lambda bytes: (side
     about = f"side {place}: "
     with_store(about + "a whole store", count(0), *store(whole))
     with_store(about + "an empty store", count(0), *store(side_of(FORM, 2, [])))
-    # (the second record is none any more, and the others are found behind it)
+    # (the second record does not count any more, and the others are found behind it)
     with_store(about + "another kind of payload", count(1), *store(changed(whole, (gates[1] + 5, 3))))
     with_store(about + "no path", count(1), *store(changed(whole, (gates[1] + 13, 0))))
     with_store(about + "a text by a number that there isn't", count(1), *store(changed(whole, (gates[1] + 32, 0))))

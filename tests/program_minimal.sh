@@ -75,7 +75,7 @@ project("of_one_name", {
 })
 expect("entities of one name", "of_one_name", 0, listed([f"lib, {name}.vhd" for name in ("a", "tb", "b", "odd", "c")]), "-f", "-m")
 
-# What is wrong with files that no test needs is said; a component without a name is none.
+# Faults of files that no test needs are reported; a component without a name does not count.
 project("wrong", {"vunit.toml": toml({"lib": ["*.vhd"]}), "tb.vhd": bench("tb", "component is end component;\ncomponent end component;\n"), "is.vhd": "entity \\is\\ is end;\n"})
 expect("components without names", "wrong", 0, listed(["lib, tb.vhd"]), "-f", "-m")
 write("wrong", {"p.vhd": "use work.q.all;\npackage p is end;\n", "q.vhd": "use work.p.all;\npackage q is end;\n"})

@@ -1,9 +1,9 @@
 #!/bin/sh
-# Each call of the system for its sources, its store, its children, its output and its report fails in turn, in each mode: lists of
-# files and tests, an export, a build that empties the store, one that goes on after a refused file, and runs of tests with
-# and without a report. The fault is named, with status 3; nothing is printed, or the beginning of the text where the
-# output failed, or all of it where the report did; what only lists changes nothing; no child is left; and the next run is
-# done and compiles exactly the files without a current record.
+# Each call of the system for its sources, its store, its children, its output and its report fails in turn, in each mode. The
+# modes are lists of files and tests, an export, a build that empties the store, one that goes on after a refused file, and runs
+# of tests with and without a report. The fault is named, with status 3. Nothing is printed, or the beginning of the text if the
+# output failed, or the whole text if the report did. Lists change nothing, and no child is left. The next run is done and
+# compiles exactly the files without a current record.
 . "$TOP/tests/support/needs.sh"
 needs python3 tomllib strace
 PYTHONPATH=$TOP/tests/support exec python3 -B - <<'END'
@@ -29,7 +29,7 @@ LISTED = "lib, p.vhd\nlib, t.vhd\nlib, u.vhd\nListed 3 files\n"
 MODES = [("-f", LISTED, None, False), ("-l", "lib.t.one\nlib.t.two\nListed 2 tests\n", None, False), ("--export-json new/out", "", "new/out", False),
          ("--compile --clean", build_text(ALL), None, True), ("--compile -k -p 3", build_text([ALL[0], ALL[2]]), None, True),
          ("-p 1", build_text([ALL[0], ALL[2]]) + TESTS, None, True), ("-p 3 -x new/out", build_text([ALL[0], ALL[2]]) + TESTS, "new/out", True)]
-# The object, the calls, how one fails, whose calls, and what is said of it. A report is written beside its place first.
+# The object, the calls, how one fails, whose calls, and the message. A report is written beside its place first.
 OPEN, MAKE, START = "?open,openat", "?mkdir,mkdirat", "clone,?clone3,?vfork"
 STORE, BESIDE = ["vunit_out", "vunit_out/store_a", "vunit_out/store_b"], ["new/.vunit_report_0"]
 CALLS = [("tree", OPEN, "EIO", ["vunit.toml"], "open"), ("tree", "read", "EIO", ["t.vhd"], "read"), ("tree", "getdents64", "EIO", ["."], "list"),

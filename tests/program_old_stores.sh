@@ -1,8 +1,8 @@
 #!/bin/sh
-# Stores of form 2, which the program takes over as it opens them: those of tests/data/old_stores, which a program wrote that wrote
-# that form, and others that are written here. What stands for their records is as another reader finds it, byte for byte; after
-# edits exactly what has no current record of these is compiled; wherever the opening is stopped, and whichever of its calls
-# fails, the next run starts the same; and where the store is to be emptied, nothing of it is taken over.
+# Stores of form 2, which the program takes over as it opens them: those of tests/data/old_stores, which a program wrote that
+# wrote that form, and others that are written here. Their records stand for the same as another reader finds, byte for byte.
+# After edits exactly the files without a current record among these are compiled. Wherever the opening is stopped, and
+# whichever of its calls fails, the next run starts the same. If the store is to be emptied, nothing is taken over from it.
 #
 # (What a program does over such a store that knows form 2 alone, as docs/FORMATS.md has it, isn't tried: that program isn't here.)
 . "$TOP/tests/support/needs.sh"
@@ -135,7 +135,7 @@ OLD = {}
 for store in WITHOUT:
     OLD[store] = [read(os.path.join(DATA, store, f"store_{side}")) for side in "ab"]
 
-# Each store as it is, and after an edit of each file in turn: by a comment, and by a line that changes what is made of it.
+# Each store unchanged, and after an edit of each file in turn: by a comment, and by a line that changes its artefact.
 for store, without in WITHOUT.items():
     old = OLD[store]
     lay_out(store)
@@ -328,7 +328,7 @@ for seed in range(150):
     check_taken(f"by chance, {seed}", sides, builds=False)
     names = len({record.view[-1][:2] for record in records})
     kept.append((len(migrated_of(records)), names))
-# (some stand as they are, of some nothing stands, and of most some)
+# (some stores keep everything, some nothing, and most a part)
 if not (any(a == b > 3 for a, b in kept) and any(a == 0 < b for a, b in kept) and sum(0 < a < b for a, b in kept) > 50):
     fail("by chance", f"of {kept} records stand")
 

@@ -1,6 +1,6 @@
 #!/bin/sh
-# Of several things that are wrong with a project the first is named: lines before the number of files, that before any
-# file; file by file whether it is there, its own bytes and the bytes so far; and all files before any is scanned.
+# Of several faults of a project the first is named: lines before the number of files, that before any file. File by file:
+# whether it exists, its own bytes and the bytes so far. And all files before any is scanned.
 . "$TOP/tests/support/needs.sh"
 needs python3
 PYTHONPATH=$TOP/tests/support exec python3 -B - "$VUNIT_RUN" <<'EOF'
@@ -40,7 +40,7 @@ for text, csv in [
     check((1, b"vunit.csv: " + text), {"vunit.csv": csv}, b"vunit.csv:%s:1" % text.split()[-1])
 check((1, b"lib, b.vhd is absent"), {"vunit.csv": LISTING, "a.vhd": b"foo"})
 
-# The second of three files is no VHDL at file level; the third isn't either, and is never named.
+# The second of three files has a fault at file level; the third has one too, and is never named.
 for second, text, place in [
     (b"foo", b"no design unit at 0", b"1:1"),
     (b"entity e is", b"design unit not ended at 0", b"1:1"),
@@ -52,8 +52,8 @@ for second, text, place in [
     files = {"vunit.csv": LISTING, "a.vhd": PACKAGE, "b.vhd": second, "c.vhd": b"foo"}
     check((1, b"lib, b.vhd: " + text), files, b"b.vhd:" + place)
 
-# A file that 15 libraries list leaves 4,194,304 bytes for the others. Of these the bytes of vunit.csv, of a.vhd and of
-# b.vhd, where it is there; c.vhd is no design unit.
+# A file that 15 libraries list leaves 4,194,304 bytes for the others. The bytes of vunit.csv, of a.vhd and of b.vhd, if it
+# exists; c.vhd has no design unit.
 LONG = b"".join(b"lib%d,z.vhd\n" % at for at in range(15)) + LISTING
 TEXT, TOTAL = (5, b"over limit: text bytes 4194304"), (5, b"over limit: total bytes 67108864")
 SCANNED, ABSENT = (1, b"lib, c.vhd: no design unit at 0"), (1, b"lib, b.vhd is absent")

@@ -85,7 +85,7 @@ ran = on_terminal("xterm", goes_away=True)
 if ran[:2] != (0, TEXT):
     fail("a terminal that goes away", f"it is {ran}")
 
-# Without a terminal nothing is told, and where standard error is closed all is as it is else.
+# Without a terminal there is no progress line; a closed standard error changes nothing else.
 make()
 expect("a pipe", "project", 0, TEXT.decode(), "--compile")
 closed = ["sh", "-c", 'exec 2>&-; exec "$@"', "sh"]

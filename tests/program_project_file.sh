@@ -2,7 +2,7 @@
 # with it is named. Nothing is compiled here.
 . "$TOP/tests/support/program.sh"
 
-# Each file of a vunit.toml, and what is said of it.
+# Each file of a vunit.toml, and the message about it.
 project a.vhd '' b.vhd ''
 while IFS='|' read -r text said; do
     # shellcheck disable=SC2059

@@ -1,6 +1,6 @@
 #!/bin/sh
-# Small projects by chance, compared with a plain program of the rules: what is refused, the warnings, the order of files,
-# the files that each compiler is handed, and what is compiled again after an edit.
+# Small projects by chance, compared with a plain program of the rules: refusals, warnings, the order of files, the files that
+# each compiler gets, and the compilations after an edit.
 . "$TOP/tests/support/needs.sh"
 needs python3
 PYTHONPATH=$TOP/tests/support exec python3 -B - <<'END'

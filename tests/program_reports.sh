@@ -1,6 +1,6 @@
 #!/bin/sh
 # A report replaces only what is absent, empty or a report of its kind. Any other file is kept and named, and the text of the
-# run stands all the same. A pipe is written where somebody reads it, and never waited for.
+# run is complete nevertheless. A pipe is written where somebody reads it, and never waited for.
 . "$TOP/tests/support/needs.sh"
 needs python3 mkfifo
 PYTHONPATH=$TOP/tests/support exec python3 -B - <<'END'

@@ -1,7 +1,7 @@
 #!/bin/sh
-# Which compilers are started, edit by edit, in small projects whose files depend on each other: a file is current where its latest
-# record has its command, its name, its text and what the files that it depends on are now made into, all of them and in order. Each
-# row says by hand what is started, with one compiler at a time and with three, and a plain model says the same.
+# Which compilers are started, edit by edit, in small projects whose files depend on each other. A file is current if its latest
+# record has its command, its name, its text and the present artefacts of its dependencies, all of them and in order. Each row
+# says by hand what is started, with one compiler at a time and with three, and a plain model says the same.
 . "$TOP/tests/support/needs.sh"
 needs python3 tomllib
 PYTHONPATH=$TOP/tests/support exec python3 -B - <<'END'
@@ -182,7 +182,7 @@ def stop(edits, plan, until):
     restore()
     write("project", edits)
     write(".", {"plan": json.dumps({PATHS[name]: what for name, what in plan.items()})})
-    # (what is left running writes its requests elsewhere than the next run)
+    # (running leftovers write their requests elsewhere than the next run)
     folder = tempfile.mkdtemp(dir=".")
     given = environment(folder) | {"PLAN": os.path.abspath("plan")}
     stopped = subprocess.Popen([PROGRAM, "--compile", "-p", "3"], cwd="project", env=given, stdin=subprocess.DEVNULL, stdout=subprocess.DEVNULL,
@@ -245,9 +245,9 @@ row("emptied, with another artefact of p", Step("q p u1 u2 v w x", words="--clea
 row("v is lost", Step("p v", with_lines(p=COMMENT, v=COMMENT), lost="v", plan={"v": {"code": 75}, "p": {"sleeps": 0.3}}), Step("v"), slots=(2, 3))
 row("p is lost", Step("p", with_lines(p=NOTE), lost="p", plan={"p": {"code": 75}}), Step("p u1 u2 w x"))
 
-# 4,096 files in a chain, of which the first gets a comment: one compiler is started, and the other files are only looked at. That takes
-# less than half a second more than a run with nothing to do, in which the same store is opened, of 67 million bytes. It is written
-# here: each file's record is over those of all before it.
+# 4,096 files in a chain, the first of which gets a comment: one compiler is started, and the other files are only looked at.
+# That takes less than half a second more than a run with nothing to do, in which the same store is opened, of 67 million bytes.
+# It is written here: each file's record is over those of all before it.
 COUNT, MOST, ROUNDS = 4096, 0.5, 9
 TIMED = """begun=$(date +%s%N)
 cat >/dev/null

@@ -1,6 +1,6 @@
 #!/bin/sh
-# What a simulator leaves at its results path, or on the way to it, which is no regular file: that case fails, nothing is
-# waited for, and no later run is blocked.
+# Anything but a regular file at a simulator's results path, or on the way to it: that case fails, nothing is waited for, and no
+# later run is blocked.
 . "$TOP/tests/support/needs.sh"
 needs python3 mkfifo
 PYTHONPATH=$TOP/tests/support exec python3 -B - <<'END'

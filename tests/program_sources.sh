@@ -1,5 +1,5 @@
-# What is wrong in the sources is named, with status 1, before a child is started, and for a place in a file standard error
-# has a line that editors know; sources without fault are compiled.
+# Faults of the sources are named, with status 1, before a child is started, and for a place in a file standard error has a line
+# that editors know. Sources without fault are compiled.
 . "$TOP/tests/support/program.sh"
 a='package a is\nend package a;\n'
 both='Compiling into lib: a.vhd passed
@@ -36,7 +36,7 @@ expect "a vunit.toml, which comes first" 1 "vunit_run: vunit.toml: no key librar
 
 project vunit.csv 'lib,a.vhd\nlib,b.vhd\n' a.vhd "$a"
 expect "a file that isn't there" 1 "vunit_run: lib, b.vhd is absent" --compile
-# each text, what is said of it, and the line and the column of the place
+# each text, its message, and the line and the column of the place
 while IFS='|' read -r text said place; do
     project vunit.csv 'lib,a.vhd\nlib,b.vhd\n' a.vhd "$a" b.vhd "$text"
     told="b.vhd:$place: lib, b.vhd: $said"
@@ -56,7 +56,7 @@ project vunit.csv 'lib,a.vhd\nlib,b.vhd\n' a.vhd 'foo' b.vhd '"'
 told='a.vhd:1:1: lib, a.vhd: no design unit at 0'
 expect "two texts with a fault" 1 "vunit_run: lib, a.vhd: no design unit at 0" --compile
 
-# A name can't end the line, and a source that can't be read twice has none.
+# A name can't end the line, and a source that can't be read twice has no such line.
 project vunit.toml '[[library]]\nname = "lib"\nfiles = ["*.vhd"]\n' "$(printf 'a\033\tb.vhd')" foo
 told='a??b.vhd:1:1: lib, a??b.vhd: no design unit at 0'
 expect "a path with control characters" 1 "$(printf 'vunit_run: lib, a\033\tb.vhd: no design unit at 0')" --compile

@@ -1,7 +1,7 @@
 #!/bin/sh
-# Each change of one byte of a store with three records, of either form: a run goes by what the bytes say then, as another reader reads
-# them. It compiles exactly the files without a current record, and leaves a current record of each file, those that were there as
-# they were. And stores of 4 MiB are read in time and memory that grow as they do, whatever they hold.
+# Each change of one byte of a store with three records, of either form: a run goes by what the bytes say then, as another
+# reader reads them. It compiles exactly the files without a current record, and leaves a current record of each file; older
+# ones stay unchanged. And stores of 4 MiB are read in time and memory that grow as they do, whatever they hold.
 . "$TOP/tests/support/needs.sh"
 needs python3 tomllib b2sum
 PYTHONPATH=$TOP/tests/support exec python3 -B - <<'END'

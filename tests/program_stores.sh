@@ -67,7 +67,7 @@ expect("nothing to do", "project", 0, build_text([]), "--compile")
 if (read_sides("project"), [os.stat(side).st_mtime_ns for side in (A, B)]) != (good, times):
     fail("nothing to do", "the store was written")
 
-# What stands in the place of a side is no file of its own.
+# Another object than a file of its own in the place of a side.
 def folder(path): os.mkdir(path)
 def pipe(path): os.mkfifo(path)
 def link_to_nothing(path): os.symlink("nothing", path)
@@ -225,7 +225,7 @@ for name, a, b in contents:
     put(B, b)
     check_build(name)
 
-# A build is stopped once the record of p was made and before that of u1, and p is edited back: then p alone has none.
+# A build is stopped once the record of p was made and before that of u1, and p is edited back: then p alone lacks a record.
 restore()
 write("project", {"p.vhd": FILES["p.vhd"] + "-- child: note 1\n"})
 stopped = subprocess.Popen([PROGRAM, "--compile"], cwd="project", env=environment("requests", 0.3), stdin=subprocess.DEVNULL,
@@ -284,7 +284,7 @@ if root and subprocess.run(["mount", "-t", "tmpfs", "-o", "size=256k", "none", "
         expect("a disk that is still full", "project", 3, "", "--compile", error=full, env=environment("requests"))
         if [record.asked.path for record in records_of("project")][:len(kept)] != kept:
             fail("a disk that is still full", "a record is lost")
-        # What is kept gives its room back before anything is written, so `--clean` builds as much again on a full disk.
+        # The store gives its room back before anything is written, so `--clean` builds as much again on a full disk.
         for at in range(len(kept), 6):
             os.remove(f"small/project/f{at}.vhd")
         fill("small/filler")

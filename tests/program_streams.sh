@@ -1,5 +1,5 @@
-# An output that can't be written is a fault with status 3, which standard error names, and so is a child's input that can't
-# be read; but for that the input is left alone.
+# A failed output is a fault with status 3, which standard error names, as is a child's unreadable input; otherwise the input is
+# not read.
 . "$TOP/tests/support/program.sh"
 project vunit.csv 'lib,a.vhd\n' a.vhd 'package a is end;\n'
 

@@ -1,6 +1,6 @@
 #!/bin/sh
-# Nothing of a run depends on standard error: over random projects standard output and status are the same with a terminal, a pipe
-# and none; a full pipe holds up no run, and lines that are dropped are counted; a terminal shows what it has room for.
+# A run does not depend on standard error. Over random projects standard output and status are the same with a terminal, a pipe
+# and none. A full pipe holds up no run, and dropped lines are counted. A terminal shows the lines that it has room for.
 . "$TOP/tests/support/needs.sh"
 needs python3
 PYTHONPATH=$TOP/tests/support exec python3 -B - <<'END'

@@ -1,6 +1,6 @@
 #!/bin/sh
-# Runs of tests by the real program: which are started, in which order and with what, what becomes of each end and of each
-# text of results, what is printed and written, and what each fault of something outside leaves.
+# Runs of tests by the real program: which are started, in which order and with what. Then the result of each end and of each
+# text of results, the printed and written bytes, and what each fault of something outside leaves.
 . "$TOP/tests/support/needs.sh"
 needs python3
 PYTHONPATH=$TOP/tests/support exec python3 -B - <<'END'
@@ -126,7 +126,7 @@ with open("real/new/folder/out.xml") as file:
     if (text := file.read()) != JUNIT.format(1, '>\n    <failure message="Failed"/>\n  </testcase>'):
         fail("the report of a failure", text)
 
-# A report that can't be written leaves the text, and what was there.
+# A failed report leaves the text, and the old file.
 for path, cause in (("src", "write: Is a directory (os error 21)"), ("src/counter.vhd/o.xml", "stat: Not a directory (os error 20)"),
                     ("/dev/full", "write: No space left on device (os error 28)")):
     expect(f"a report to {path}", "real", 3, "Re-compile not needed\n" + one, "-x", path, error=f"vunit_run: fault of report\nvunit_run: {path}: {cause}\n")

@@ -84,7 +84,7 @@ for each in waiting:
     if (each.returncode, said, told) != (0, b"Re-compile not needed\n", WAITING):
         fail("a start that waited", f"it is {each.returncode, said, told}")
 
-# Nothing is waited for where nothing runs, and no number is no number.
+# Nothing is waited for if nothing runs, and a wrong number does not count as one.
 free = start("--compile", wait="100")
 said, told = free.communicate(timeout=60)
 if (free.returncode, said, told) != (0, b"Re-compile not needed\n", b""):

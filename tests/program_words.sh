@@ -1,5 +1,5 @@
-# Words that are no command line of the program give status 2 and the usage text, before anything is looked at. A number
-# of children that is too high comes next, and then the project.
+# Invalid command lines give status 2 and the usage text, before anything is looked at. A number of children that is too high
+# comes next, and then the project.
 . "$TOP/tests/support/program.sh"
 
 # a project that is refused

@@ -1,8 +1,8 @@
 #!/bin/sh
-# docs/proof/DEFINITIONS.md and CALLS.md are what tests/support/proof_pages.py makes of the sources, and have fewer than 15,000 words
-# together. Where a comment, a label or a cited name changes, they are to be made anew: this script sees each in a copy of the sources.
-# At most BARE definitions and public calls have no comment: lower that number where some get one, and never raise it. Ends with 0,
-# with 1 where a page isn't as it is to be, and with 77 where python3 is missing.
+# docs/proof/DEFINITIONS.md and CALLS.md are what tests/support/proof_pages.py makes of the sources, and have fewer than 15,000
+# words together. Where a comment, a label or a cited name changes, they are to be made anew: this script sees each in a copy of
+# the sources. At most BARE definitions and public calls have no comment: lower that number where some get one, and never raise
+# it. Ends with 0, with 1 if a page differs, and with 77 if python3 is missing.
 top=${TOP:-$(cd -- "$(dirname -- "$0")/.." && pwd)} || exit 1
 . "$top/tests/support/needs.sh"
 needs python3

@@ -1,7 +1,7 @@
-# Each function of the program's crates is reached from `main`, but for those of tests/support/reached.txt, which has a reason for each.
-# It reads the sources as text. Then the same is tried over copies of the sources: one with a function, one with a method and one with a
-# method of a trait that nothing calls, and one where a row of reached.txt is needless; each must be named. Prints what isn't so. Ends
-# with 0, with 1 where something isn't, and with 77 where python3 is missing.
+# Each function of the program's crates is reached from `main`, but for those of tests/support/reached.txt, which has a reason
+# for each. It reads the sources as text. Then the same is tried over copies of the sources: one with a function, one with a
+# method and one with a method of a trait that nothing calls, and one with a needless row in reached.txt. Each must be named.
+# Prints what isn't so. Ends with 0, with 1 where something isn't, and with 77 where python3 is missing.
 room=$PWD
 cd -- "${TOP:-$(dirname -- "$0")/..}" || exit 1
 . tests/support/needs.sh
@@ -10,7 +10,7 @@ needs python3
 
 python3 tests/support/reached.py --lines || exit 1
 
-# plant NAME WANTED FILE TEXT: with TEXT at the end of FILE, WANTED is all that is printed
+# plant NAME WANTED FILE TEXT: with TEXT at the end of FILE, exactly WANTED is printed
 plant() {
     mkdir -p "$room/$1/crates" && cp crates.txt "$room/$1" || exit 1
     for crate in crates/*; do

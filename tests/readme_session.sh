@@ -1,6 +1,6 @@
-# Runs the sessions of README.md and of the pages for users that need no other tool, each in a fresh folder, and compares them with
-# what the pages print; and the first of the two commands by which README.md says to start (the second is the gate). Those with GHDL
-# are run by ghdl.sh and ghdl_examples.sh.
+# Runs the sessions of README.md and of the pages for users that need no other tool, each in a fresh folder, and compares them
+# with the output in the pages. Also the first of the two commands by which README.md says to start (the second is the gate).
+# Those with GHDL are run by ghdl.sh and ghdl_examples.sh.
 set -e
 . "$TOP/tests/support/needs.sh"
 needs python3

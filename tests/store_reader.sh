@@ -57,7 +57,7 @@ for name, sides, wanted in [
 ]:
     check(name, counting_side(sides, 2), wanted)
 
-# The examples of form 2, and what is no payload of it.
+# The examples of form 2, and invalid payloads of it.
 first = spelled("01 03000000 6c6962 05000000 612e766864 01000000 02000000 6363 01 01000000 78 00000000 01000000")
 second = spelled("01 03000000 6c6962 05000000 622e766864 01000000 02000000 6363 00 0000000000000000 01000000 0000000000000000 01000000")
 a = Entry(b"lib", b"a.vhd", (b"cc",), b"x", ())

@@ -1,7 +1,7 @@
 #!/bin/sh
-# Documents are in plain English: a page has none of the phrases below and no sentence of more than 35 words. Fenced blocks, quotations,
-# links and the pages made of comments in the sources do not count; code between backticks is one word. Ends with 0, with 1 if there is
-# a fault, and with 77 if python3 is missing.
+# Documents are in plain English: a page never uses the phrases below, and no sentence has more than 35 words. Fenced blocks,
+# quotations, links and the pages made of comments in the sources do not count; code between backticks is one word. Ends with 0,
+# with 1 if there is a fault, and with 77 if python3 is missing.
 cd -- "${TOP:-$(dirname -- "$0")/..}" || exit 1
 . tests/support/needs.sh
 needs python3
@@ -17,7 +17,7 @@ PHRASES = re.compile(r"\b(?:" + "|".join((
     # conditions without their noun: say "without a pattern", "if the file does not exist"
     "where there (?:is|are) (?:none|one|no)", "where it (?:isn't|is not|hasn't|has not|doesn't|does not)", "(?:has|have|had|is|are) none",
     "(?:is|are) (?:neither|none) of", "for want of", "all the same", "the other way (?:about|round)", "likewise",
-    # who or what is meant: say the noun
+    # who or which thing is meant: say the noun
     "so (?:much|many|long)", "what (?:is|are|was) (?:said|known|told|asked|there|wrong|shown|kept|meant|left)(?: of)?", "(?:is|are|was) (?:said|told) of",
     "what (?:becomes?|became) of", "what (?:is|are) to be", "what it (?:has|gave|said|asks)", "all that (?:is|are|was|were)", "all of it",
     "(?:is|are) to be (?:read|known|had|told|seen)", "those that", "that which", "none of (?:those|these|them)", "one that (?:isn't|didn't|hasn't)",

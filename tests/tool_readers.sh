@@ -1,6 +1,6 @@
 #!/bin/sh
-# What the tools beside the program read: patterns of names and paths, the generics of an entity, the words of ghdl_bench, TOML, and
-# command lines of the program, which are compared with what the program itself says of them.
+# The readers of the tools beside the program: patterns of names and paths, the generics of an entity, the words of ghdl_bench,
+# TOML. Also command lines of the program, compared with the program's own messages about them.
 . "$TOP/tests/support/needs.sh"
 needs python3
 set -e

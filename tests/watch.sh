@@ -1,6 +1,7 @@
 #!/bin/sh
-# wrappers/vunit_watch: which edits cause a run, what is printed of failures, changes and signals during a run, other runs in the folder,
-# starts that meet before the store is locked, and a hundred saves with the language server, the watch and a run in a terminal.
+# wrappers/vunit_watch: which edits cause a run, and the lines about failures, changes and signals during a run. Other runs in
+# the folder, starts that meet before the store is locked, and a hundred saves with the language server, the watch and a run in
+# a terminal.
 . "$TOP/tests/support/needs.sh"
 needs python3 tomllib strace flock
 PYTHONPATH=$TOP/tests/support

@@ -33,7 +33,7 @@ def bench(chance, name):
 
 
 def verdicts(cases, failing, same):
-    """What becomes of each case. In one simulation the first that fails ends it."""
+    """The verdict of each case. In one simulation the first that fails ends it."""
     if not same:
         return ["fail" if case in failing else "pass" for case in cases]
     first = next((at for at, case in enumerate(cases) if case in failing), len(cases))
@@ -94,7 +94,7 @@ def counts_of(tests):
 
 
 def check(seed, folder):
-    """Tries one project. Gives whether it was accepted, whether it had both verdicts, and what was wrong."""
+    """Tries one project. Gives whether it was accepted, whether it had both verdicts, and the fault."""
     files, is_accepted, tests = make(seed)
     write(folder, files)
     full = [(f"{bench}.{case}", verdict) for bench, case, verdict in tests]
@@ -132,7 +132,7 @@ def check(seed, folder):
 
 
 def goes_on(seconds, starts):
-    """Whether a worker that has made so many starts goes on after so long."""
+    """Whether a worker goes on after this number of starts and these seconds."""
     return seconds < SECONDS or starts * WORKERS < LEAST_STARTS and seconds < 4 * SECONDS
 
 

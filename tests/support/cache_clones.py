@@ -57,7 +57,7 @@ class Team:
         return folder
 
     def build(self, folder, starts, *words, status=0, counted="-a", **settings):
-        """Runs the program in a clone; gives its text. GHDL has to be started so many times."""
+        """Runs the program in a clone; gives its text. GHDL has to be started this number of times."""
         found = run(folder, *(words or ("--compile", "-p", "4")), env=self.environment(**settings))
         count = self.starts(counted)
         assert found[0] == status and not found[2], f"{folder}: it is {found}"

@@ -1,4 +1,5 @@
-"""What the tests of wrappers/over_cache share: a cache before a compiler that is a script, starts over them, and what is left."""
+"""What the tests of wrappers/over_cache share: a cache before a compiler that is a script, starts over them, and a look at
+leftovers."""
 
 import hashlib, os, shutil, subprocess
 from compile_requests import fields
@@ -26,7 +27,7 @@ def artefact_of(data, words=()):
 
 
 def request(number, count=3, library=b"lib"):
-    """A compile request over so many files, of which some texts are long and some short."""
+    """A compile request over a number of files, some with long texts and some with short ones."""
     used = [(library, b"d%d.vhd" % at, b"artefact %d " % at * (5 + 400 * (at % 2))) for at in range(count)]
     return b"".join(fields(library, b"f%d.vhd" % number, b"source %d\n" % number * 100, used))
 

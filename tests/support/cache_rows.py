@@ -23,7 +23,7 @@ def hits_and_misses():
     first = request(1)
     place.check(first, 1)
     place.check(first, 0)
-    # (each part of what is asked counts)
+    # (each part of the request counts)
     place.check(first, 1, words=("-a",))
     place.check(first, 1, OVER_CACHE_KEY="2")
     source = first.replace(b"source 1\n", b"source 2\n", 1)
@@ -34,7 +34,7 @@ def hits_and_misses():
         place.check(other, 1)
         place.check(other, 0)
     place.check(first, 0)
-    # (what is no request is the command's to refuse, and another code than 0 isn't kept)
+    # (an invalid request is the command's to refuse, and another code than 0 isn't kept)
     place.check(b"no request", 1)
     place.check(b"no request", 1)
     place.check(first + b"x", 1)
@@ -129,7 +129,7 @@ def collisions():
             place.check(request(10 * at + number), 0)
         assert len({os.path.dirname(path) for path in place.files("1")}) == 1, "the hash isn't poor"
         assert len(place.files(".9.entry1")) == 1
-    # (merged by a tool that keeps what is there, equal names stand for other texts)
+    # (merged by a tool that keeps existing files, equal names stand for other texts)
     merge(places[1].cache, places[0].cache)
     for number in range(20):
         data = request(number)

@@ -135,7 +135,7 @@ def hooks():
     team.build(folder, 0, "*seven", counted="-r")
     write(folder, {"data/number.txt": "8\n"})
     team.build(folder, 0, "*seven", status=1, counted="-r")
-    # (a file that the hook itself changes is no ground to rest on)
+    # (a file that the hook itself changes does not count as ground)
     changing = {**project("--before=date +%N >data/number.txt", "--data=data/golden.txt"), "data/number.txt": "7\n"}
     for name in "third", "fourth":
         team.build(team.clone(name, changing), 1, "*seven", counted="-r")

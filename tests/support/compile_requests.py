@@ -39,9 +39,9 @@ def closure(direct, name):
 
 
 def compile_all(sources, direct, words=(), without=None):
-    """Compiles files in the order of `sources`, whose names are pairs of a library and a path, each over the files that
-    it depends on. `without` is a file and another one that isn't handed over for it. Gives the artefacts by name up to
-    the first file that is refused, and that file with what was said, or None."""
+    """Compiles files in the order of `sources`, whose names are pairs of a library and a path, each over the files that it
+    depends on. `without` names a file and another one that isn't handed over for it. Gives the artefacts by name up to the
+    first refused file, and that file with the text about it, or None."""
     made = {}
     for name, source in sources.items():
         wanted = closure(direct, name) - ({without[1]} if without and without[0] == name else set())

@@ -66,7 +66,7 @@ def check(name, ran, status, text=None, error=None, holds=(), is_long=False):
 
 
 def tests(*lines):
-    """The text of verdicts: each line is a letter and a name, or what is shown before one, after a blank."""
+    """The text of verdicts: each line is a letter and a name, or a shown line before one, after a blank."""
     verdicts = "".join(line[0] for line in lines if line[0] != " ")
     words = {"p": "pass", "f": "fail", "s": "skip"}
     shown = "".join(line[1:] + "\n" if line[0] == " " else f"{words[line[0]]} lib.{line[1:]}\n" for line in lines)

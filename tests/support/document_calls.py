@@ -2,18 +2,19 @@
 
 usage: document_calls.py [TOP]
 
-A page says that the program calls a function by "`NAME`, which the program calls" or "the program calls `NAME`", and that it doesn't by
-"`NAME`, for tests", "for tests `NAME`" or "`NAME`, which tests alone call"; NAME may have its type before it, and may be a list of names.
-In TOUR the column "Where" of the table of steps names calls: those behind a file stand in that file. In PROMISES each function of the
-crate of a row that the column "Promise" names is a call too, unless the row says that it is for tests; laws, whose bodies are empty,
-aren't called.
+A page says that the program calls a function by "`NAME`, which the program calls" or "the program calls `NAME`". It says that
+it doesn't by "`NAME`, for tests", "for tests `NAME`" or "`NAME`, which tests alone call". NAME may have its type before it, and
+may be a list of names. In TOUR the column "Where" of the table of steps names calls: those behind a file stand in that file. In
+PROMISES each function of the crate of a row that the column "Promise" names is a call too, unless the row says that it is for
+tests; laws, whose bodies are empty, aren't called.
 
 Prints what isn't so, and ends with 1 then, else with 0.
 """
 import collections, pathlib, re, sys
 
-# Of `reached` this needs `crates_of(TOP)`, the program's crates; `Reader(CRATE, ROOT).functions`, their functions, each with crate,
-# path, type, name and text (head and body as tokens); and `unreached(TOP)`, those that nothing on the way from main reaches, and a count.
+# Of `reached` this needs `crates_of(TOP)`, the program's crates. `Reader(CRATE, ROOT).functions` are their functions, each with
+# crate, path, type, name and text (head and body as tokens). `unreached(TOP)` gives the functions that nothing on the way from
+# main reaches, and a count.
 import reached
 
 top = pathlib.Path(sys.argv[1] if len(sys.argv) > 1 else ".")

@@ -16,7 +16,7 @@ MOMENTS = [0, 0.03, 0.1, "begun"]
 chance, took, count = random.Random(36), [], 0
 
 
-# (what is ignored here would be ignored by all that is started)
+# (a signal that is ignored here would be ignored by all children)
 for ending in signal.SIGINT, signal.SIGHUP, signal.SIGTERM, signal.SIGQUIT:
     signal.signal(ending, signal.SIG_DFL)
 

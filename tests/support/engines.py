@@ -1,4 +1,5 @@
-"""What the tests of wrappers/over_engine share: engines that are scripts, starts of the wrapper over them, and what is left."""
+"""What the tests of wrappers/over_engine share: engines that are scripts, starts of the wrapper over them, and a look at
+leftovers."""
 
 import os, subprocess, sys, time
 from concurrent.futures import ThreadPoolExecutor

@@ -1,4 +1,4 @@
-"""Tries wrappers/ghdl_bench with what it has to refuse: requests, artefacts, words, commands. Works in the present folder."""
+"""Tries wrappers/ghdl_bench with invalid input: requests, artefacts, words, commands. Works in the present folder."""
 
 import os, random, shutil, struct, subprocess, sys
 from bench_requests import SIMULATOR, Run, build

@@ -38,7 +38,7 @@ def bench(loop, variables="", declarations="", concurrent=""):
 
 
 def ending(text, run, said, path="tb.vhd"):
-    """The end of what is said of a failed run of the bench with this text, where nothing but the wrapper names a cause: this, where the
+    """The end of the text about a failed run of the bench with this text, if only the wrapper names a cause: this, where the
     output is, and the cause at the line of the architecture."""
     line = 1 + text[: text.index("architecture ")].count("\n")
     message = said.replace("ghdl_bench: ", "", 1)
@@ -120,7 +120,7 @@ NEVER_STARTS = IN_ONE + bench("      if count = 1 then\n        check(run(\"a\")
                               "    variable count : natural := 0;")
 NEVER_STARTED = "ghdl_bench: 2 cases were never started, the first of them: a\n"
 
-# All cases in one simulation, of which the third fails, or all pass.
+# All cases in one simulation: the third fails, or all pass.
 IN_ONE_CASES = ["one", "two, too", "three", "four"]
 IN_ONE_FAILS = IN_ONE + bench(loop_of([("one", ""), ("two, too", "check(count = 1);"),
                                        ("three", "check(count /= 2, result(\"of three\"));"), ("four", "")])

@@ -109,7 +109,7 @@ text = b"library vunit_lib;\ncontext vunit_lib.vunit_context;\nentity tb is\n  g
 run = Run(build([(b"vunit_lib", b"own.vhd", own), (b"tb_lib", b"tb.vhd", text)]), b"tb_lib", b"tb", b"sim", [])
 check("its own library", run, "f", ["my own", "without test_runner_setup"], 0)
 
-# Words of libraries reach the simulation, and so do those of the simulator.
+# Words of libraries reach the simulation, as do the simulator's.
 loose = b"library ieee;\nuse ieee.std_logic_arith.all;\npackage a is\n  subtype u is unsigned(1 downto 0);\nend package a;\n"
 psl = b"""entity p is
 end;

@@ -21,7 +21,7 @@ for passing, failing, name in OTHERS:
         for words, said in [('"mine"', "mine"), ('result("of mine")', f"{name} {verb} of mine")]:
             rows.append((statement % (f"({words})" if alone else f", {words}") + ";", f"check - {level} - {said}"))
 
-# Loggers: what is shown, and what is counted.
+# Loggers: the shown lines, and the counts.
 rows += [
     ('info("a");', "default - INFO - a"),
     ('debug("never seen");', None),

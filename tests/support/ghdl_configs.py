@@ -37,7 +37,7 @@ def compiles():
 
 
 def run(name, table, words, rows, status, tool=TOOL, **variables):
-    """Runs a tool over a table, and compares text, status and report with rows of class, case, verdict and what is shown."""
+    """Runs a tool over a table, and compares text, status and report with rows of class, case, verdict and shown text."""
     with open("p/table.toml", "w", encoding="utf-8") as file:
         file.write(table)
     ran = subprocess.run([tool, "table.toml", "-x", "out.xml", *words], cwd="p", stdin=subprocess.DEVNULL, capture_output=True,

@@ -45,7 +45,7 @@ check("counter, by the children of the program", "counter", files,
 have_ghdl("counter")
 check("counter, by GHDL", "counter", files, [("tb_lib.tb_counter", *row) for row in zip(cases, "ppp", ["", "", ""])])
 
-# And the other way about: a clock that stands still is nothing to a simulator that simulates nothing.
+# And the reverse: a clock that stands still does not matter to a simulator that simulates nothing.
 project("realistic", realistic_project.FILES)
 cases = ["reset", "count & wrap"]
 check("realistic, by the children of the program", "realistic", files,

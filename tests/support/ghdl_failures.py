@@ -1,4 +1,4 @@
-"""What is said of benches that fail, each kind with its last line by hand: where and why. Works in the present folder."""
+"""The texts about benches that fail, each kind with its last line by hand: where and why. Works in the present folder."""
 
 import os, sys
 

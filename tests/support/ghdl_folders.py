@@ -8,7 +8,7 @@ from ghdl_bench_texts import WHOLE, bench
 from ghdl_trial import with_ghdl
 from trial import expect, project, write
 
-# A bench that reads what it has written; without the writing it fails, whatever was written before.
+# A bench that reads its own output; without the writing it fails, whatever was written before.
 WRITES = 'file_open(data, output_path(runner_cfg) & "o.txt", write_mode); write(text_line, string\'("7"));' \
          ' writeline(data, text_line); file_close(data);'
 READS = 'file_open(status, data, output_path(runner_cfg) & "o.txt", read_mode); check(status = open_ok, result("of o.txt"));'

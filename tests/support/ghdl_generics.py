@@ -33,8 +33,8 @@ NO_DEPTH = "-gdepht=3: no bench among the files has a generic depht (with -m, us
 
 
 def try_words(name, words, verdicts, texts=(), only=None):
-    """Runs the project with these words of the simulator, and all cases, or those at some positions. A text is what is shown before
-    each case that fails, and a list what is in it, by the position of the case; of others nothing is compared."""
+    """Runs the project with these words of the simulator, and all cases, or those at some positions. A text is shown before
+    each case that fails, and a list has parts of that text, by the position of the case; of others nothing is compared."""
     at_positions = range(len(NAMES)) if only is None else only
     project("p", {"vunit.toml": with_ghdl({"tb_lib": ["tb/*.vhd"]}, ["ghdl_bench", *words]), "tb/tb_wide.vhd": TB_WIDE,
                   "tb/tb_deep.vhd": TB_DEEP, "tb/tb_one.vhd": TB_ONE, "tb/tb_paths.vhd": TB_PATHS, "tb/in.txt": "x\n"})
@@ -43,7 +43,7 @@ def try_words(name, words, verdicts, texts=(), only=None):
     check(name, "p", FILES, rows, *([] if only is None else [".".join(NAMES[at]) for at in only]))
 
 
-# (GHDL takes the leftmost value of a type where a generic has none)
+# (GHDL takes the leftmost value of a type if a generic lacks one)
 NO_VALUE = {at: [f"Got -2147483648. Expected {at + 3}."] for at in (0, 1)}
 try_words("none", [], "ffpppppff", NO_VALUE)
 if not os.path.exists("p/vunit_out/tests/tb_lib.tb_paths.writes/out.txt"):

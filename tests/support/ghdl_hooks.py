@@ -28,7 +28,7 @@ def run_of(*cases, in_one=False):
 
 
 def check(name, run, words, verdicts, text=None, code=None, holds=(), **settings):
-    """Runs it, and compares verdicts, the code, and the text or what it has to hold."""
+    """Runs it, and compares verdicts, the code, and the text or parts of it."""
     got_code, output, errors = run.start(words, **settings)
     said = f"{name}: {run.verdicts()} with {got_code}: {output.decode('latin-1')} {errors}"
     assert run.verdicts() == verdicts and not errors and (code is None or got_code == code), said
@@ -52,7 +52,8 @@ def sleeping():
 
 
 def of_hook(run, log, what, printed=""):
-    """The text of a case that a hook has failed: what it printed, what is said of it, and that in one line with the bench's place."""
+    """The text of a case that a hook has failed: the hook's output, the message, and that in one line with the bench's
+    place."""
     place = "tests/tb.vhd:7" if run is not silent else "tb.vhd:1"
     whole = f"(all of the output is in {run.folder.decode()}{log}.txt)\n"
     return f"{printed}ghdl_bench: --{log} {what}\n{whole}{place}: --{log} {what}\n"

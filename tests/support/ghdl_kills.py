@@ -1,5 +1,5 @@
-"""Kills the keeper, the wrapper or GHDL alone, at random moments of a compile and of a bench without end: no process and no folder is
-left, and the next start gives what it has to. Works in the present folder."""
+"""Kills the keeper, the wrapper or GHDL alone, at random moments of a compile and of a bench without end: no process and no
+folder is left, and the next start gives the right answer. Works in the present folder."""
 
 import os, random, signal, subprocess, time
 
@@ -60,7 +60,7 @@ def start(program, words, request, **settings):
 
 
 def kill(child, which, moment):
-    """Kills one of the three after so many seconds, or as soon as it is there. Tells whether it did."""
+    """Kills one of the three after a number of seconds, or as soon as it runs. Tells whether it did."""
     time.sleep(moment)
     until = time.monotonic() + 5
     while (victim := victim_of(child.pid, which)) is None and child.poll() is None and time.monotonic() < until:
@@ -75,7 +75,7 @@ def kill(child, which, moment):
 
 
 def ended(child):
-    """Its code, and what it has put."""
+    """Its code, and its output."""
     output, said = child.stdout.read(), child.stderr.read()
     return child.wait(20), output, said
 

@@ -1,5 +1,5 @@
-"""What is left of runs of wrappers/ghdl_bench: processes, by a word that the wrapper and its keeper got and by the folder that GHDL
-works in, and what is in that folder, TMPDIR."""
+"""Leftovers of runs of wrappers/ghdl_bench: processes, by a word that the wrapper and its keeper got and by the folder that
+GHDL works in, and the content of that folder, TMPDIR."""
 
 import os, random, time
 
@@ -7,7 +7,7 @@ MARK = f"--cpu-limit={random.SystemRandom().randrange(10**6, 10**8)}"
 
 
 def left():
-    """What is there of wrappers, keepers and GHDL: command lines and folders."""
+    """Running wrappers, keepers and GHDL: command lines and folders."""
     tmp = os.environ["TMPDIR"]
     found = os.listdir(tmp)
     for name in os.listdir("/proc"):

@@ -1,5 +1,5 @@
-"""Tries each limit of wrappers/ghdl_bench over benches in VHDL and over commands in place of GHDL that sleep, stop themselves or pass
-over signals: the limit is named, and none is named where somebody else killed GHDL. Works in the present folder."""
+"""Tries each limit of wrappers/ghdl_bench over benches in VHDL and over commands in place of GHDL that sleep, stop themselves
+or pass over signals. The limit is named, and none is named if somebody else killed GHDL. Works in the present folder."""
 
 import os, time
 

@@ -47,7 +47,7 @@ class Way:
             os.remove(results)
         variables, words = {**os.environ, **there}, [os.path.join(WRAPPERS, wrapper)]
         if self.over_engine:
-            # (what is to be wrong is so for the command alone)
+            # (the fault is the command's alone)
             given = "".join(f"export {name}='{value}'\n" for name, value in there.items())
             node = command(f"{self.folder}/node", wrapper, f'{given}exec {words[0]} "$@"\n')
             engine = os.path.join(command(f"{self.folder}/engine", "engine", f'PATH={node}:$PATH exec "$@"\n'), "engine")
@@ -104,7 +104,7 @@ def try_rows(over_engine):
 
 
 def fill(folder, pages):
-    """Leaves so many pages of a file system free."""
+    """Leaves this number of pages of a file system free."""
     free = os.statvfs(folder)
     with open(f"{folder}/filler", "wb") as file:
         file.write(bytes((free.f_bavail - pages) * free.f_frsize))

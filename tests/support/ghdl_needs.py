@@ -1,5 +1,5 @@
-"""Compiles projects made by hand with wrappers/ghdl_analyse, each file over exactly the files that it depends on by a list
-that is written by hand here; and sees that without any file of that list GHDL refuses."""
+"""Compiles projects made by hand with wrappers/ghdl_analyse, each file over exactly its dependencies by a list that is written
+by hand here. Without any file of that list GHDL refuses."""
 
 from compile_requests import compile_all
 

@@ -10,14 +10,14 @@ from trial import end, fail, project, run
 
 
 def check_bench(name, text, cases, *words, simulator=BY_GHDL):
-    """As `check`, of the one bench that a text has, by a row of case, verdict and what is shown for each."""
+    """As `check`, of the one bench that a text has, by a row of case, verdict and shown text for each."""
     project("one", {"vunit.toml": with_ghdl({"tb_lib": ["tests/*.vhd"]}, simulator), "tests/tb.vhd": text,
                     "tests/data.txt": texts.DATA})
     check(name, "one", ["tb_lib: tests/tb.vhd"], [("tb_lib.tb", *case) for case in cases], *words)
 
 
 def parts(verdict, holds):
-    """What is shown of a run: of one that passed nothing."""
+    """The shown text of a run: of a passed one nothing."""
     return "" if verdict == "p" else holds
 
 
@@ -42,7 +42,7 @@ check_bench("no time", texts.ENDLESS, [
 check_bench("much output", texts.ENDLESS, [("much output", "f", texts.MUCH_OUTPUT)], "*much output")
 check_bench("prints and fails", texts.PRINTS_AND_FAILS, [("all", "f", ["(the last lines of ", *texts.PRINTED])])
 
-# Without cases; a case whose name is no literal; nothing; cases that never start; and a folder that GHDL can't be told.
+# Without cases; a case whose name isn't a literal; nothing; cases that never start; and a folder that GHDL can't be told.
 check_bench("no cases", texts.WHOLE, [("all", "p", "")])
 check_bench("no cases, failing", texts.WHOLE_FAILS, [("all", "f", ["0 fs - check - ERROR - Check failed\n"])])
 check_bench("no literal", texts.NO_LITERAL, [("all", "f", ["names a case that the runner doesn't know"])])
@@ -93,7 +93,7 @@ check("extended names", "extended", [f"{library}: {path}" for library, path, _ i
 project("bound", {"vunit.toml": with_ghdl({"tb_lib": ["*.vhd"]}), "other.vhd": texts.UNBOUND, **texts.BOUND})
 check("bound by default", "bound", [f"tb_lib: {path}" for path in texts.BOUND], [("tb_lib.tb", "sees seven", "p", "")], "-m")
 
-# Each check of the library: those that pass in one simulation, and each that fails in one of its own.
+# Each check of the library: the passing ones in one simulation, and each failing one in one of its own.
 checks = list(ghdl_check_texts.passing_and_failing())
 
 

@@ -1,5 +1,5 @@
-"""Stops the program while it runs benches without end with GHDL, at moments at which all of them run and at some by chance: no
-process and no folder is left, and the next run passes. Works in the present folder."""
+"""Stops the program while it runs benches without end with GHDL, at moments at which all run and at some by chance: no process
+and no folder is left, and the next run passes. Works in the present folder."""
 
 import os, random, signal, subprocess, time
 

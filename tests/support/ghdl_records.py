@@ -1,5 +1,5 @@
-"""Tries GHDL_BENCH_KEEP and GHDL_BENCH_WORDS of wrappers/ghdl_bench: what is kept repeats a run, and words record and change no
-verdict. Works in the present folder."""
+"""Tries GHDL_BENCH_KEEP and GHDL_BENCH_WORDS of wrappers/ghdl_bench: the kept files repeat a run, and words record and change
+no verdict. Works in the present folder."""
 
 import os, subprocess
 
@@ -60,7 +60,7 @@ assert passes.start(env=with_words("--read-wave-opt=nowhere"))[:2] == (1, b"ghdl
 with open(passes.folder + b"run.txt") as file:
     assert "\ncase fail passes\nerror GHDL_BENCH_WORDS:=20nowhere=20can't=20be=20read" in file.read()
 
-# What is kept: the command that is printed repeats the run, from any folder and with more words; the next run keeps nothing.
+# Kept files: the printed command repeats the run, from any folder and with more words; the next run keeps nothing.
 for run, (ran, verdicts) in plain.items():
     code, output, _ = run.start(env=with_words("--wave=w.ghw", keep="1"))
     assert (code, run.verdicts()) == (ran[0], verdicts) and not os.listdir(TMP), output

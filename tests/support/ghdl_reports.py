@@ -130,7 +130,7 @@ def killed():
         ended = sum(verdict == "passed" for *_, verdict in rows)
         assert rows[-1] == ("vunit_run", f"run was cut off after {ended} of 9 tests", "error"), (by, rows[-1])
         assert ended == 0 if by == "KILL to the reporter" else 3 <= ended < 9, (by, ended)
-        # By what is there a report of a killed run says what had ended.
+        # By its data a report of a killed run names the ended tests.
         until = time.monotonic() + 20
         while os.listdir(TMP) and time.monotonic() < until:
             time.sleep(0.01)

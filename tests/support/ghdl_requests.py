@@ -13,7 +13,7 @@ package p is
 end package p;
 """
 COUNT = "library lib;\n\nentity {name} is\nend entity {name};\n\narchitecture a of {name} is\n  constant k : integer := {value};\nbegin\nend architecture a;\n"
-# Three users in the package's own library, and two in another; v is none.
+# Three users in the package's own library, and two in another; v does not use it.
 USERS = {"lib": ["u1", "u2", "u3"], "top": ["u4", "u5"]}
 FILES = {f"{library}/{name}.vhd": COUNT.format(name=name, value=f"lib.p.{'cde'[at % 3]}") for library, names in USERS.items() for at, name in enumerate(names)}
 FILES |= {"lib/p.vhd": PACKAGE, "lib/v.vhd": COUNT.format(name="v", value="1")}
@@ -80,7 +80,7 @@ edit("checked/lib/e.vhd", "always b -> a", "always (b ->")
 status, lines = run("checked")
 assert status == 1 and lines[0] == "Compiling into lib: lib/e.vhd failed", f"a property that is none: {lines}"
 
-# The same without the word: what is no property is no matter.
+# The same without the word: anything but a property does not matter.
 edit("checked/vunit.toml", '"ghdl_analyse", "-fpsl"', '"ghdl_analyse"')
 check("without properties", run("checked"), lines_in(["lib/e", "lib/u1", "lib/u2"]))
 edit("checked/lib/e.vhd", "always (b ->", "always a -> b;")

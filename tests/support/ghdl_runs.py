@@ -6,7 +6,7 @@ import seeded_project
 from ghdl_steps import FRESH, TOP, check, edit, passed, run
 
 
-# The example: all files in the order of compilation, and after each edit those that are started.
+# The example: all files in the order of compilation, and after each edit the started ones.
 PATHS = ["counter/counter_pkg", "counter/counter_context", "counter/counter", "counter/counter_model",
          "counter/counter_as_model", "counter/counter_pkg_body", "counter/counter_rtl", "board/board"]
 EDITS = [

@@ -1,5 +1,5 @@
-"""The short packages of wrappers/vunit_lib/everyday: they have nothing that the whole ones haven't, a bench gets them where it has no
-word of theirs, and it runs over the whole ones where GHDL refuses it over these. Works in the present folder."""
+"""The short packages of wrappers/vunit_lib/everyday. They have nothing that the whole ones haven't. A bench without one of
+their words gets them, and runs over the whole ones if GHDL refuses it over these. Works in the present folder."""
 
 import itertools, os, re, sys
 from bench_requests import Run, build

@@ -40,8 +40,8 @@ def in_xml(text):
 
 
 def compare_runs(text, rows):
-    """Compares what is printed of runs. A row has bench, case, verdict, and what is shown before its line: all of it as a text,
-    or parts of it as a list. Gives what is wrong, or None."""
+    """Compares what is printed of runs. A row has bench, case, verdict, and the text before its line: whole as a text, or parts
+    of it as a list. Gives the fault, or None."""
     at = 0
     for bench, name, verdict, shown in rows:
         line = f"{SAID[verdict]} {bench}.{name}\n"

@@ -42,7 +42,7 @@ p = (b"lib", b"src/p.vhd", made(b"lib", b"src/p.vhd", PACKAGE))
 e = (b"lib2", b"e.vhd", made(b"lib2", b"e.vhd", ENTITY, [p]))
 check("refused", compile_one(request(b"lib2", b"a.vhd", REFUSED, [p, e])), (1, SAID % b"a.vhd", b""))
 
-# Input that is no request: cut at each edge of a field, at seeded bytes, too long, of bad libraries.
+# Invalid input: cut at each edge of a field, at seeded bytes, too long, of bad libraries.
 parts = fields(b"lib2", b"a.vhd", REFUSED, [p, e])
 whole = b"".join(parts)
 edges = {sum(map(len, parts[:count])) for count in range(len(parts))}
@@ -64,7 +64,7 @@ check("no folder", compile_one(whole, env={**os.environ, "TMPDIR": "/nowhere"}),
 check("a line feed", compile_one(whole, env={**os.environ, "TMPDIR": tmp + "\n"}),
       (1, b"ghdl_analyse: GHDL takes no line feed in the name of a folder: set TMPDIR to another\n", b""))
 
-# Names that are no names of files, and libraries with the names of folders.
+# Names that no file can have, and libraries with the names of folders.
 for path in [b'a "b".vhd', b"a\\b.vhd", "ä/€.vhd".encode(), b"ghdl_analyse_0.vhd", b"\\1\\g<0>"]:
     check(path, compile_one(request(b"lib2", path, REFUSED, [p, e])), (1, SAID % path, b""))
     check(path, compile_one(request(b"lib2", b"e.vhd", ENTITY, [(b"lib", path, p[2])])), (0, e[2], b""))
@@ -130,15 +130,15 @@ over = b"library lib2;\nentity f is\nend;\narchitecture a of f is\nbegin\n  u : 
 made(b"lib3", b"f.vhd", over, [e2], cwd="elsewhere")
 assert compile_one(request(b"lib3", b"f.vhd", over, [e2]))[0] == 1
 
-# A library clause that nothing in the file uses; what is missed all the same is refused as by GHDL.
+# A library clause that nothing in the file uses; a missing unit is refused as by GHDL nevertheless.
 bare = (b"tb", b"e.vhd", made(b"tb", b"e.vhd", b"library lib, other, ieee;\nentity e is\nend entity e;\n"))
 uses_it = b"architecture a of e is\n  constant k : integer := lib.p.c;\nbegin\nend architecture a;\n"
 made(b"tb", b"a.vhd", uses_it, [p, bare])
 code, said, _ = compile_one(request(b"tb", b"a.vhd", uses_it, [bare]))
 assert code == 1 and said.startswith(b'a.vhd:2:31: unit "p" not found in library "lib"'), said
 
-# Comments are no part of an artefact, and what only looks like one stays; lines stay where they are. A line as it is
-# written, and where it differs as it is kept.
+# Comments do not belong to an artefact, and what only looks like one stays; lines stay in their places. A line as it is
+# written, and if that differs as it is kept.
 COMMENTS = r"""
 package p is -- one
 package p is
@@ -271,7 +271,7 @@ check("silent", compile_one(whole, env=script("silent", "exit 3\n")), (1, b"ghdl
 other = script("other", "echo 'v 5' >lib2-obj08.cf\n")
 check("other", compile_one(whole, env=other)[:2], (1, b"ghdl_analyse: this ghdl writes library files of another form\n"))
 
-# What is too long: an artefact, a source, a request for the memory that there is, which is read to its end all the same.
+# Too long ones: an artefact, a source, a request for the available memory, which is read to its end nevertheless.
 digits = random.Random(1).randbytes(300_000).hex().encode()
 constant = b"  constant c%d : string := \"%s\";\n"
 constants = b"".join(constant % (at, digits[at : at + 80]) for at in range(0, len(digits), 80))

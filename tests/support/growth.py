@@ -4,17 +4,17 @@ import os, subprocess, tempfile
 from told import without_told
 from trial import PROGRAM, fail, project
 
-# The least time of at most so many rounds counts.
+# The least time of a number of rounds counts.
 ROUNDS = 9
 # What the program needs to start doesn't count: seconds, and bytes of memory.
 START, START_MEMORY = 0.2, 8 << 20
-# A run may have so many bytes of memory for each byte that it is given, and those of what it prints besides.
+# A run may have this number of bytes of memory for each byte of its input, and those of its output besides.
 FOR_A_BYTE = 100
 SECONDS = 60
 
 
 def measured(words, memory, folder="project"):
-    """Status, output and error of a run in a folder in so many bytes of memory, and its seconds of processor time."""
+    """Status, output and error of a run in a folder with limited memory, and its seconds of processor time."""
     limited = f'ulimit -v {memory // 1024}; exec timeout -s KILL {SECONDS} "$0" "$@"'
     with tempfile.TemporaryFile() as out, tempfile.TemporaryFile() as error:
         ran = subprocess.Popen(["sh", "-c", limited, PROGRAM, *words], cwd=folder, stdin=subprocess.DEVNULL, stdout=out, stderr=error)
@@ -26,7 +26,7 @@ def measured(words, memory, folder="project"):
 
 
 def checked(name, wanted, given, *words, folder="project"):
-    """The seconds of a run that is given so many bytes, and has this status, output and error; or nothing."""
+    """The seconds of a run over input of this size, with this status, output and error; or nothing."""
     status, out, error = wanted
     wanted = status, out.encode(), error.encode()
     ran, seconds = measured(words, FOR_A_BYTE * given + len(out) + START_MEMORY, folder)

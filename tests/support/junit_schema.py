@@ -8,7 +8,7 @@ from xml.etree import ElementTree
 TIME = re.compile(r"(([0-9]{0,3},)*[0-9]{3}|[0-9]{0,3})*(\.[0-9]{0,3})?")
 ANY, NUMBER = re.compile("(?s).*"), re.compile("[0-9]+")
 STAMP = re.compile(r"\d{4}-\d\d-\d\dT\d\d:\d\d:\d\d")
-# Of each element: its attributes with their forms, those that have to be there, what it may hold, and whether it may have a text.
+# Of each element: its attributes with their forms, the required ones, its possible content, and whether it may have a text.
 ELEMENTS = {
     "testsuites": ({"name": ANY, "time": TIME, "tests": NUMBER, "failures": NUMBER, "disabled": NUMBER, "errors": NUMBER}, (),
                    {"testsuite"}, False),

@@ -1,6 +1,6 @@
-# SIGKILL of whoever builds a program of this kind, before and after commands that it starts: once rt has ended, no process is left
-# and nobody has the lock; and who comes next has the right program. Of the moments up to MOST of each part are tried; this script
-# takes each fourth of them, from the given one on, and appends the parts to the file seen.
+# SIGKILL of whoever builds a program of this kind, before and after commands that it starts. Once rt has ended, no process is
+# left and nobody has the lock; and who comes next has the right program. Of the moments up to MOST of each part are tried; this
+# script takes each fourth of them, from the given one on, and appends the parts to the file seen.
 #
 # usage: killed.sh checked|proved MOST 1|2|3|4
 kind=$1
@@ -104,7 +104,7 @@ next_program() {
 
 start never
 same "one that isn't killed" "$status $(ls repo/out | grep -c "^$kind-")" "0 1"
-# Moments of each part, up to so many, spread over its commands: before the work of the one and after that of the next.
+# Moments of each part, up to a number, spread over its commands: before the work of the one and after that of the next.
 parts | awk -v most="$most" '{ all[$0] += 2; part[NR] = $0 }
     END {
         for (at = 1; at <= NR; at++) {

@@ -1,4 +1,4 @@
-# Kills builds of a kind at up to so many moments of each part of a build, four builds at a time, and looks that at least so many were
+# Kills builds of a kind at moments of each part of a build, up to a number, four builds at a time. It looks that enough were
 # killed, and five in each part.
 #
 # usage: kills.sh checked|proved MOST LEAST

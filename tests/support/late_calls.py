@@ -1,6 +1,6 @@
-"""Of a trace by strace, whether the call that was made to fail is one that a run passes over: one that asks for room on standard
-error, one of the look at both files of the store for records that can't be read, or one of the second look at the project, which comes
-once the text was put and the report was written."""
+"""Of a trace by strace, whether the failed call is one that a run passes over. Such a call asks for room on standard error, or
+belongs to the look at both files of the store for unreadable records, or to the second look at the project, after the text was
+put and the report was written."""
 import re
 
 TEXT, REPORT = re.compile(r"(?:\d+ +)?write\(1[,<]"), re.compile(r"(?:\d+ +)?rename(?:at2?)?\(")

@@ -162,7 +162,7 @@ def saves():
     client.save("a.vhd")
     warning = (1, 4, 12, "lib, a.vhd: use of lib.all gives no dependency")
     expect_shown("a warning", client, {"a.vhd": [warning]})
-    # an edit moves what is shown, and a check alone doesn't take it back
+    # an edit moves the findings, and a check alone doesn't take them back
     client.open("a.vhd", text)
     client.change("a.vhd", "-- \n  ", 2, ((1, 0), (1, 0)))
     client.change("a.vhd", "foo", 3, ((5, 0), (5, 0)))

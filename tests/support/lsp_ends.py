@@ -16,7 +16,7 @@ def same(name, found, wanted):
 
 
 def words_of(path):
-    """The words of a file, none where there is no such file."""
+    """The words of a file, nothing if it does not exist."""
     if not os.path.exists(path):
         return []
     with open(path) as file:
@@ -24,7 +24,7 @@ def words_of(path):
 
 
 def left():
-    """What is left of a server within a while."""
+    """Leftovers of a server within a while."""
     until = time.monotonic() + 60
     while os.listdir(ROOM) and time.monotonic() < until:
         time.sleep(0.05)
@@ -39,7 +39,7 @@ def ends(name, client, status):
 
 
 def frames():
-    """Frames cut anywhere, several in one write, and what is no frame."""
+    """Frames cut anywhere, several in one write, and invalid ones."""
     client = server("project")
     whole = client.frame({"id": 7, "method": "no/such"}) + client.frame({"method": "no/such"}) + client.frame({"id": "é", "method": "no/such"})
     for at in range(len(whole)):
@@ -66,7 +66,8 @@ def frames():
 
 
 def messages():
-    """JSON that is no message, methods at the wrong time, and wrong parameters: each has an answer, and the server goes on."""
+    """JSON that isn't a message, methods at the wrong time, and wrong parameters: each has an answer, and the server goes
+    on."""
     client = server("project")
     deep = b"[" * 100_000
     for name, text, code in (("no JSON", b"{", -32700), ("no UTF-8", b'"\xff"', -32700), ("deep", deep, -32700), ("a number", b"3", -32600),

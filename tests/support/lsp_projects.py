@@ -44,7 +44,7 @@ def write(word, path):
 
 
 def written(word, path="../written"):
-    """What is written, as its text; the fault where it isn't."""
+    """The written file, as its text; the fault without one."""
     ran = write(word, path)
     if ran != (0, b"", b""):
         fail(word, ran)

@@ -19,7 +19,7 @@ def of_list(name, csv, line, start, end, text):
 
 
 def of_file(name, text, wanted, other=None, offers=None):
-    """One or two files, and what is shown in the first one, or in both."""
+    """One or two files, and the findings in the first one, or in both."""
     files = {"vunit.toml": LIBRARY, "a.vhd": text, **({"b.vhd": other} if other else {})}
     try_row(name, files, wanted if isinstance(wanted, dict) else {"a.vhd": wanted}, offers)
 

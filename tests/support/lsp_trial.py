@@ -1,4 +1,4 @@
-"""What the tests of the language server share: a server over a new project, and ranges as they are written by hand."""
+"""What the tests of the language server share: a server over a new project, and ranges in a form that is written by hand."""
 
 import os, shutil, time
 

@@ -38,7 +38,7 @@ def make(path, what):
         os.symlink(what, path)
 
 
-# A name that is not UTF-8, as it is shown, at each depth, of a file and of a folder. Files whose benches fail lie beside it
+# A name that is not UTF-8, in its shown form, at each depth, of a file and of a folder. Files whose benches fail lie beside it
 # under names before and after it, so that a listing which leaves out a part would leave out some of these.
 for depth in b"", b"src/", b"src/deep/":
     for odd, shown in (b"Gr\xf6\xdfe.txt", b"Gr??e.txt"), (b"\xff", b"?"), (b"z\x01\xc3\xa4\xff", b"z????"):
@@ -134,7 +134,7 @@ def random_tree(chance):
 def found(*tests):
     """The paths below the project that find finds by these tests, without what a listing passes over."""
     words = ["find", ".", "-mindepth", "1", "(", "-name", ".*", "-o", "-path", "./vunit_out", ")", "-prune", "-o", *tests, "-print0"]
-    # (it complains of links that go in a circle, and finds them all the same)
+    # (it complains of links that go in a circle, and finds them nevertheless)
     paths = subprocess.run(words, cwd="project", stdin=subprocess.DEVNULL, capture_output=True).stdout
     return sorted(path[2:] for path in paths.split(b"\0") if path)
 
@@ -148,7 +148,7 @@ def is_utf8(path):
 
 
 def shown(path):
-    """A name that is not UTF-8, as it is shown."""
+    """A name that is not UTF-8, in its shown form."""
     return bytes(byte if 32 <= byte < 127 else 63 for byte in path)
 
 

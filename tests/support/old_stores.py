@@ -24,7 +24,7 @@ LONG = 400_000
 
 
 def build(*started, status=0):
-    """A build that starts these files, of which the last is refused where the status is 1."""
+    """A build that starts these files; the last is refused if the status is 1."""
     found = run("project", "--compile", env=environment("requests"))
     names = [path.decode() for _, path in started_in("requests")]
     if found[0] != status or names != list(started):

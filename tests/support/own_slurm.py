@@ -150,7 +150,7 @@ class OwnSlurm:
         tasks = self.ids_with(b"SLURMD_NODENAME=" + node.encode())
         steps = {parent for parent in map(parent_of, tasks) if parent in self.ids_with()} - set(tasks)
         self.daemons[node].kill()
-        # (first those that would tell how the others have ended)
+        # (first the ones that would tell how the others have ended)
         for number in [*steps, *tasks]:
             end_process(number)
 

@@ -1,6 +1,6 @@
-"""What the sources of a linked project say, by a plain program that is written from the rules alone and shares nothing with
-the one that it is compared with: tokens (IEEE Std 1076-2008, clause 15), design units, references, visible libraries,
-dependencies and the order of files (clause 13, but for the choices that the documents name as this project's own).
+"""The facts in the sources of a linked project, by a plain program that is written from the rules alone and shares nothing with
+the compared one. Tokens (IEEE Std 1076-2008, clause 15), design units, references, visible libraries, dependencies and the
+order of files (clause 13, but for the choices that the documents name as this project's own).
 
 It looks at everything again and again, so it is for small projects. It reads whole texts, but doesn't look for lexical
 faults.
@@ -11,12 +11,12 @@ Project = collections.namedtuple("Project", "files texts external bodies depends
 Unit = collections.namedtuple("Unit", "kind name owner lead first last")
 Ref = collections.namedtuple("Ref", "library name architecture strict")
 Placed = collections.namedtuple("Placed", "position library unit tokens refs")
-# by `files` in compile order, each with the names of those that it depends on in that order; and the lines of the warnings
+# by `files` in compile order, each with the names of its dependencies in that order; and the lines of the warnings
 Reading = collections.namedtuple("Reading", "files closures warnings")
 
 
 class Refused(Exception):
-    """What is wrong with the sources, as the program says it."""
+    """The fault of the sources, in the program's words."""
 
 
 RESERVED = set(
@@ -85,7 +85,7 @@ class Text:
         return self.words.index(word, at) if word in self.words[at:] else None
 
     def after_name(self, at):
-        """The place after NAME or NAME.NAME, where there is one."""
+        """The place after NAME or NAME.NAME, if there is one."""
         while is_name(self[at]):
             if self[at + 1] != ".":
                 return at + 1

@@ -1,7 +1,7 @@
-"""A compiler for tests of the program. It leaves each request that it gets in the folder REQUESTS, by the time of the start, and the
-time of the end in the folder ENDS, and does what the file PLAN, a JSON text, says of the path of the file: how many seconds it
-`sleeps`, a `salt` that what it makes has besides, and a `code` to end with. What it makes of a source are the lines that begin with
-`package` or with `-- child: `, and `refuse TEXT` in such a line has it print the TEXT and refuse the file."""
+"""A compiler for tests of the program. It leaves each request that it gets in the folder REQUESTS, by the time of the start,
+and the time of the end in the folder ENDS. The file PLAN, a JSON text, says by the path of the file what to do: how many
+seconds it `sleeps`, a `salt` for its artefact, and a `code` to end with. What it makes of a source are the lines that begin
+with `package` or with `-- child: `, and `refuse TEXT` in such a line has it print the TEXT and refuse the file."""
 import json, os, struct, sys, time
 
 

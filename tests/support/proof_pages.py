@@ -185,7 +185,7 @@ def examples_of(top):
 
 
 def shown(text):
-    """A comment as a page shows it: its signs are no markup."""
+    """A comment in the form of a page: without markup."""
     parts = text.split("`")
     return "`".join(part if at % 2 else re.sub(r"([*<\[])", r"\\\1", part) for at, part in enumerate(parts))
 

@@ -1,5 +1,5 @@
-"""Small linked projects by chance, each made of its seed alone: at most 8 files with design units of all kinds, which refer
-to each other in all forms. Some have units twice, units that are missing, circles, or a text that is no list of units.
+"""Small linked projects by chance, each made of its seed alone: at most 8 files with design units of all kinds, which refer to
+each other in all forms. Some have duplicate units, missing units, circles, or a text that isn't a list of units.
 
     make(SEED)            the project, for the plain rules and for the program
     make(SEED, Short)     a project in few bytes: without what only looks like a reference, and in lower case
@@ -22,7 +22,7 @@ CONFIGURED = ["package"] + ["entity"] * 3 + ["architecture"] * 5 + ["configurati
 # what a unit of these kinds is of
 OWNERS = {"architecture": "entity", "body": "package", "configuration": "entity", "instance": "package"}
 
-# Texts in the body of a unit that look like references and are none, or that nest what has an end of its own.
+# Texts in the body of a unit that only look like references, or that nest text with an end of its own.
 NOISE = [
     "-- use work.m9.all;\n", "/* library other; use other.m9.all; */ ", 'constant s : string := "work.m9";\n',
     "constant q : character := '\"';\n", "constant r : integer := rec.work.m9;\n", "constant t : bit := bit'('1');\n",
@@ -117,7 +117,7 @@ class Maker:
         self.plan.append(Planned(kind, name, owner, file))
 
     def is_wrong(self, count):
-        """Whether something is to be wrong here, once in so many cases of a project that may have faults."""
+        """Whether a fault belongs here, once in a number of cases of a project that may have faults."""
         return self.faults and self.chance.one_in(count)
 
     def text(self, file):
@@ -163,7 +163,7 @@ class Maker:
         return self.chance.one_of(found) if found and not self.chance.one_in(odds) else None
 
     def whole(self, unit, clauses):
-        """A whole library in a use clause, or what it has."""
+        """A whole library in a use clause, or its units."""
         other = self.one(unit, ["package"], 2) if self.chance.one_in(3) else None
         if other:
             return f"{self.named(unit, other, clauses)}{self.chance.one_of(['.all', '.c'])}"
@@ -234,14 +234,14 @@ class Maker:
         return f"use entity {self.named(unit, other, clauses)}", ["m9"] if self.is_wrong(3) else names
 
     def specification(self, unit, clauses):
-        """A configuration specification of an architecture, where what comes next is no block configuration."""
+        """A configuration specification of an architecture, without a block configuration next."""
         bound, known = self.bound(unit, clauses)
         given = f"({self.said(self.chance.one_of(known))})" if known and self.chance.one_in(3) else ""
         more = f"for {self.chance.one_of([*known, 'm9'])}\nend for;\n" if self.chance.one_in(3) else ""
         return f"for {self.chance.one_of(['t', 't, x'])} : w {bound}{given};\n{more}"
 
     def component(self, unit, clauses, depth):
-        """A component configuration, with a block configuration, or with what is none after its binding."""
+        """A component configuration, with a block configuration, or with something else after its binding."""
         chance = self.chance
         labels = chance.one_of(["u", "u, v", "all", "others"])
         if (other := self.one(unit, ["configuration"], 2)) and chance.one_in(4):
@@ -360,8 +360,8 @@ PHRASES = {
 
 
 def answer_of(project):
-    """The lines of the warnings, and for each file in order the letters of its own path and of those that it depends on; or
-    the refusal."""
+    """The lines of the warnings, and for each file in order the letters of its own path and of its dependencies; or the
+    refusal."""
     try:
         reading = plain_rules.read(project)
     except Refused as fault:

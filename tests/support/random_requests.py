@@ -1,16 +1,16 @@
 """Small sides of form 3 by chance, each made of its seed alone: payloads of two or three files whose texts, products and
-numbers meet, and of which some are none.
+numbers meet; some are invalid.
 
     side_at(SEED)         the bytes of a side of generation 1
     row_of(SEED)          a side and what a store says of it, as a line of the table of crates/tests_store
 
 usage: random_requests.py COUNT     prints the table of the first sides
 
-A line has four parts: the side's bytes; the texts, products and records that it stands for, as below; of `a.vhd`, and of `b.vhd`
-over it, both with the text `x`, `f` where the latest record has what would be asked now and else `s`, and then the artefact of each that
-is lent, or `-`; and the bytes of the other side after a compaction. A text is its one byte, or `.` where it has none; a product is the
-first letter of its path and its artefact; a record is the letter, how many words it has, its text, the number of the product of each
-dependency, a colon and its product.
+A line has four parts. First the side's bytes. Second the texts, products and records that it stands for, as below. Third, of
+`a.vhd`, and of `b.vhd` over it, both with the text `x`, `f` if the latest record is current and else `s`, and then the borrowed
+artefact of each, or `-`. Fourth the bytes of the other side after a compaction. A text is its one byte, or `.` if it is empty.
+A product is the first letter of its path and its artefact. A record is the letter, its number of words, its text, the number of
+the product of each dependency, a colon and its product.
 """
 import struct, sys
 

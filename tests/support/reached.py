@@ -2,10 +2,11 @@
 
 usage: reached.py [--lines] [TOP]
 
-The program's crates are those that vunit_run needs by crates.txt. Their sources are read as text: a function is reached if the body
-of one that is reached, or a static or a constant, names it. Names that may mean several functions mean all of them: `x.name(..)` each
-method of that name, `Type::name` the methods of that type, `T::name` of a parameter each method. A method of an `impl` for a trait of
-std counts as reached; that for a trait of this repository where the trait's method is called. Tests are left out.
+The program's crates are the ones that vunit_run needs by crates.txt. Their sources are read as text: a function is reached if
+the body of one that is reached, or a static or a constant, names it. Names that may mean several functions mean all of them:
+`x.name(..)` each method of that name, `Type::name` the methods of that type, `T::name` of a parameter each method. A method of
+an `impl` for a trait of std counts as reached; that for a trait of this repository where the trait's method is called. Tests
+are left out.
 
 Prints a line for each such function that no row of reached.txt names: its crate, its type if it has one, and its name; --lines adds
 file and number of lines. A row of reached.txt that names no such function, or has no reason, is printed too. Ends with 0, or with 1
@@ -214,7 +215,7 @@ class Reader:
 
 
 def crates_of(top):
-    """The crates that vunit_run needs, each with those that it uses."""
+    """The crates that vunit_run needs, each with its uses."""
     uses = {}
     for line in (top / "crates.txt").read_text().splitlines():
         line = line.split("#")[0]

@@ -45,7 +45,7 @@ assert report("--all-output")[0].findtext("system-out") == "never shown\n"
 finish()
 
 begin("runs")
-# Of several runs: the newest, or that which is named; folders of others never come in. (The times of files say which is newest.)
+# Of several runs: the newest, or the named one; folders of others never come in. (The times of files say which is newest.)
 select("lib.t.a", "lib.t.b")
 old, new = make("lib.t.a", {"a": "pass"}, run="old"), make("lib.t.b", {"b": "pass"}, run="new")
 now = time.time() + 10
@@ -60,7 +60,7 @@ for folder in (old, new):
 assert rows_of(report()) == [("lib.t", "a", "error"), ("lib.t", "b", "error"), ("vunit_run", "run was cut off after 0 of 2 tests", "error")]
 finish()
 
-# An -x that is newer than the data counts, and an older one doesn't; what it has no verdict of has none.
+# An -x that is newer than the data counts, and an older one doesn't; a case without a verdict there gets none.
 begin("xunit")
 select("lib.t.a", "lib.t.b")
 folder = make("lib.t.a", {"a": "pass"})
@@ -106,7 +106,7 @@ for make_it, remove in ((os.mkdir, os.rmdir), (os.mkfifo, os.unlink), (lambda na
     make_it(f"{folder}/run.txt")
     assert rows_of(report()) == [("lib.t", "a", "error"), ("vunit_run", "run was cut off after 0 of 1 tests", "error")]
     remove(f"{folder}/run.txt")
-# An output that is none.
+# An invalid output.
 folder = make("lib.t.b", {"b": "fail"}, code=1)
 select("lib.t.b")
 os.unlink(f"{folder}/output.txt")
@@ -114,7 +114,7 @@ os.mkfifo(f"{folder}/output.txt")
 assert report("--run", "one")[0].findtext("system-out") == f"(there is no {folder}/output.txt)\n"
 finish()
 
-# What is no export, and wrong words.
+# An invalid export, and wrong words.
 begin("words")
 USAGE = "usage: vunit_report [--export FILE] [--run ID] [--xunit FILE] [--html FILE] [--all-output] FILE\n"
 report(status=2, said="vunit_report: vunit_out/selected.json: No such file or directory: write it before the run, by vunit_run "

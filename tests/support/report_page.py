@@ -43,7 +43,7 @@ class Page(HTMLParser):
 
 
 def look(fragment=""):
-    """The page as it is once its script has run, and what Chromium has said in the console."""
+    """The page after its script has run, and the lines of Chromium's console."""
     ran = subprocess.run(["chromium", "--headless", "--no-sandbox", "--disable-gpu", "--disable-dev-shm-usage",
                           "--user-data-dir=" + os.path.abspath("profile"), "--enable-logging=stderr", "--v=0", "--dump-dom",
                           "file://" + os.path.abspath("page.html") + (f"#{quote(fragment)}" if fragment else "")],
@@ -70,7 +70,7 @@ assert counts == {"pass": 48, "fail": 7, "skip": 6, "error": 2} and not any(row[
 assert page.shown == "63 of 63 shown" and page.title == "Tests" and page.scripts == 1, (page.shown, page.title)
 assert "63 tests" in page.text and "fail 7, error 2, skip 6" in page.text
 assert HOSTILE.strip().replace("\x1b", "\ufffd") in page.text, page.text[-3_000:]
-# (the slowest are those that were started last)
+# (the slowest are the ones that were started last)
 slowest = page.text[page.text.index("Slowest") :].split("Tests")[0]
 assert re.findall(r"(\d\.\d{3}) s", slowest)[:3] == ["6.000", "5.900", "5.800"] and slowest.count(" s") >= 20, slowest
 for wanted, shown in [("bench_1.", 20), ("BENCH_1.", 20), ("fail", 7), ("case 59", 1), ("<b>&amp;", 1), ("no such case", 0), ("never", 1)]:

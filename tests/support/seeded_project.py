@@ -1,5 +1,5 @@
-"""Makes a VHDL project from a seed: make(FOLDER, SEED, FILES, LINES) writes `vunit.toml` and so many files of at least so
-many lines. Names of files are by chance, so the order of compilation has to be found."""
+"""Makes a VHDL project from a seed: make(FOLDER, SEED, FILES, LINES) writes `vunit.toml` and FILES files of at least LINES
+lines. Names of files are by chance, so the order of compilation has to be found."""
 
 import os, random
 

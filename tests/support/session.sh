@@ -26,7 +26,7 @@ awk -v quote="'" '
     /^\$ / {
         command = shown = substr($0, 3)
         gsub(quote, quote "\\" quote quote, shown)
-        # the status of the command before is left as it was
+        # the status of the command before does not change
         print "kept=$?; printf " quote "%s\\n" quote " " quote "$ " shown quote "; (exit $kept)"
         print command
     }' wanted >commands

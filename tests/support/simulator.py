@@ -1,5 +1,5 @@
-"""A simulator for tests of the program. It keeps each request that it gets in the folder REQUESTS, and does what the file PLAN, a
-JSON text, says of the folder of its results: `code`, `output` and `results` (texts of which each character is a byte), a
+"""A simulator for tests of the program. It keeps each request that it gets in the folder REQUESTS. The file PLAN, a JSON text,
+says by the folder of its results what to do: `code`, `output` and `results` (texts of which each character is a byte), a
 `signal` that ends it, a file that it `makes`, one that it then `awaits` for at most 20 seconds, and how many seconds it then
 `sleeps`. What isn't said passes."""
 import json, os, signal, struct, sys, time

@@ -14,12 +14,12 @@ FILES, TEXT, ALL_TEXT, ARTEFACT = 4096, 4194304, 67108864, 262144
 # `deps` are positions of files before it, rising.
 Entry = collections.namedtuple("Entry", "library path command text deps")
 
-# Of form 3. What a compiler was asked: `below` are the files that a file depends on, as they were built, in graph order.
+# Of form 3. A compiler's request: `below` are the dependencies of a file, in built form, in graph order.
 Asked = collections.namedtuple("Asked", "command library path text below")
 Product = collections.namedtuple("Product", "library path artefact")
 RequestRecord = collections.namedtuple("RequestRecord", "asked artefact")
 
-# Of form 2. A view is a tuple of entries, of which the last depends on all others.
+# Of form 2. A view is a tuple of entries; the last depends on all others.
 ViewRecord = collections.namedtuple("ViewRecord", "view artefact")
 Node = collections.namedtuple("Node", "library path command text needs")
 
@@ -230,7 +230,7 @@ class Requests:
             self.products.append(product)
 
     def told_text(self, data, new):
-        """A text by its number, or one that isn't there yet, which is added to the new ones."""
+        """A text by its number, or a new one, which is added to the new ones."""
         kind = data.byte()
         if kind == 0:
             number = data.u64()
@@ -338,9 +338,9 @@ def payloads_of_views(records):
 
 
 def migrated_of(records):
-    """The records of requests that stand for records of views. For each name its latest record counts, where each file that
-    the last of its view depends on has a latest record of the view that it has there: the request is that of the last file,
-    over what these records gave."""
+    """The records of requests that stand for records of views. The latest record of a name counts if each dependency of its
+    view's last file has a latest record of the view that it has there. The request is that of the last file, over the artefacts
+    of these records."""
     latest = {record.view[-1][:2]: record for record in records}
     moved = []
     for view, artefact in latest.values():
@@ -359,8 +359,8 @@ def views_in(sides):
 
 
 def records_in(sides):
-    """The records that two sides have for a run, oldest first: those of form 3 where a side of it is live, and else those that
-    stand for records of views."""
+    """The records that two sides have for a run, oldest first: records of form 3 if a side of it is live, and else the ones for
+    records of views."""
     side = counting_side(sides)
     return Requests(payloads(side)[0]).records if side is not None else migrated_of(views_in(sides))
 
@@ -442,13 +442,13 @@ def view_at(graph, at):
 
 
 def asked_at(graph, at, built):
-    """What the compiler of a file is asked, where these are the files before it as they are built."""
+    """The request for a file, over these built files before it."""
     entry = graph[at]
     return Asked(entry.command, entry.library, entry.path, entry.text, tuple(built[dep] for dep in entry.deps))
 
 
 def latest_built(records, entry):
-    """A file as its latest record built it, or None where it has none."""
+    """A file in the form that its latest record built, or None without a record."""
     record = latest_of(records).get(entry[:2])
     return Product(*entry[:2], record.artefact) if record is not None else None
 
@@ -460,8 +460,8 @@ def has_asked(records, graph, at):
 
 
 def built_over(graph, records, compiler):
-    """The positions of the files that a build over these records compiles, and each file as it is built then: where its
-    compiler, which gives an artefact for a request, gives None, or a file that it depends on isn't built, it is None."""
+    """The positions of the files that a build over these records compiles, and each file as it is built then. A file is None if
+    its compiler, which gives an artefact for a request, gives None, or if one of its dependencies isn't built."""
     latest, compiled, built = latest_of(records), [], []
     for at, entry in enumerate(graph):
         artefact = None
@@ -483,7 +483,7 @@ def request_of(asked):
 
 
 def read_request(data):
-    """Library, path, source and dependencies of a request, or None where it isn't one whole request."""
+    """Library, path, source and dependencies of a request, or None for anything but one whole request."""
     try:
         data = Bytes(data)
         if data.take(4) != b"VRC1":

@@ -1,7 +1,6 @@
-"""Tries wrappers/take_vunit over a tree that is made here in the layout of VUnit 4 and 5, of which the packages are those of
-wrappers/vunit_lib: what it copies, what it writes into vunit.toml, and what it refuses; and runs the projects of
-tests/data/vunit_benches over what it has copied. REAL may name the folder of a real VUnit, over which these run too. Works in the
-present folder."""
+"""Tries wrappers/take_vunit over a tree that is made here in the layout of VUnit 4 and 5, with the packages of
+wrappers/vunit_lib: its copies, its lines in vunit.toml, and its refusals. Then it runs the projects of tests/data/vunit_benches
+over the copy. REAL may name the folder of a real VUnit, over which these run too. Works in the present folder."""
 
 import glob, os, re, subprocess, sys
 
@@ -11,7 +10,7 @@ from vunit_benches import PROJECTS, copy
 
 TOOL = f"{TOP}/wrappers/take_vunit"
 SHIPPED = f"{TOP}/wrappers/vunit_lib"
-# Where the layout has the packages of our library. Those that aren't named here are part of `logging`.
+# Where the layout has the packages of our library. Other packages belong to `logging`.
 PLACES = {
     "vunit_context": "vunit_context", "vunit_run_context": "vunit_run_context", "core_pkg": "core/src/core_pkg",
     "string_ops": "string_ops/src/string_ops", "path": "path/src/path", "dictionary": "dictionary/src/dictionary",
@@ -43,7 +42,7 @@ end package;
 """,
     "core/test/tb_core.vhd": "entity tb_core is\nend entity;\n", "core/src/notes.txt": "not VHDL\n",
     "array/src/array_pkg.vhd": "package array_pkg is\nend package;\n"}
-# What OSVVM and those that need it add, and what is left out of it.
+# The files that OSVVM and its users add, and the omitted ones.
 OSVVM = {
     "osvvm/RandomPkg.vhd": "package RandomPkg is\nend package;\n",
     "osvvm/ScoreboardPkg_slv.vhd": "package ScoreboardPkg_slv is\nend package;\n",

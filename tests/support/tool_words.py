@@ -27,7 +27,7 @@ for count in range(300):
     try:
         read = RunnerWords(words)
     except WrongWords as wrong:
-        # (2 is no command line, and 5 more children than there may be)
+        # (2 is an invalid command line, and 5 more children than are allowed)
         assert wanted[0] in (2, 5), f"{words}: {wrong}, and the program says {wanted}"
         continue
     assert wanted[0] == 0 and read.mode() == "list", f"{words} are read, and the program says {wanted}"

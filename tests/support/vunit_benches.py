@@ -1,6 +1,6 @@
-"""Projects as VUnit's users write them, in tests/data/vunit_benches: a UART, a FIFO with a scoreboard, registers behind AXI-lite,
-generic packages and mocked loggers. Each passes as it is; and with one fault in its design exactly the cases fail that find it,
-with what the log says of it. All by hand. Works in the present folder."""
+"""Projects as VUnit's users write them, in tests/data/vunit_benches: a UART, a FIFO with a scoreboard, registers behind
+AXI-lite, generic packages and mocked loggers. Each passes unchanged. With one fault in its design exactly the cases fail that
+find it, with the log's text about it. All by hand. Works in the present folder."""
 
 import shutil
 
@@ -36,7 +36,7 @@ PROJECTS = {
                                             "has a name below its parent"]}),
 }
 
-# One fault of each: the file, what stands there and what instead, and for each case that doesn't pass its verdict and what is shown.
+# One fault of each: the file, the old text and the new one, and for each case that doesn't pass its verdict and the shown text.
 STOP_BIT = [" - check - ERROR - Equality check failed for the stop bit - Got 0. Expected 1.\n"]
 FAULTS = {
     "uart": ("src/uart_tx.vhd", "'1' & tdata & '0'", "'0' & tdata & '0'", {

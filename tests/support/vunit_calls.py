@@ -1,5 +1,5 @@
-"""The calls of VUnit's interface that wrappers/vunit_lib has, by the rows of tests/data/vunit_calls: each compiles as it stands,
-passes where it should and fails where it should, with the text of the log. Works in the present folder.
+"""The calls of VUnit's interface that wrappers/vunit_lib has, by the rows of tests/data/vunit_calls: each compiles, passes and
+fails as its row says, with the text of the log. Works in the present folder.
 
 usage: vunit_calls.py [PATTERN ..]     tries all rows, or those whose names match a pattern
        vunit_calls.py --table          prints the table of docs/user/MOVING.md
@@ -22,7 +22,7 @@ below it that begin with four blanks. Lines with `#` are comments.
     refused   statements with which the bench isn't compiled, for a call that VUnit has and the library hasn't
     differs   what is otherwise than in VUnit, for the table
 
-Below `passes`, `fails` and `refused` stand what is to be seen:
+Below `passes`, `fails` and `refused` stands the expected text:
 
     > TEXT         a line of the log; all of them, in order. Without such a line the log is empty. (`call` may log anything.)
     ends: 3 ns     the time at which the simulation ends, as GHDL writes it
@@ -155,7 +155,7 @@ def log_of(text):
 
 
 def wrong_in(row, built, case, at):
-    """What is wrong with one simulation, or nothing."""
+    """The fault of one simulation, or nothing."""
     bench = row.bench_name.encode()
     run = Run(built, b"tb_lib", bench, b"sim", [b"%d" % at])
     run.start(row.parts.get("words", "").split())
@@ -175,7 +175,7 @@ def wrong_in(row, built, case, at):
 
 
 def try_row(row):
-    """What is wrong with a row: a text for each case of it."""
+    """The faults of a row: a text for each case of it."""
     if row.cases[0].kind == "refused":
         return [wrong for case in row.cases if (wrong := wrong_in_refusal(row, case))]
     cases = [Case("call", row.parts["call"]), *row.cases]
@@ -205,7 +205,7 @@ def cell(text):
 
 
 def table(rows):
-    """The tables of docs/user/MOVING.md: how many calls of each package are here, and those that are missing or different."""
+    """The tables of docs/user/MOVING.md: how many calls of each package are here, and the missing or different ones."""
     lines = ["| Package | Calls that are there |", "|---|---|"]
     for package in dict.fromkeys(row.package for row in rows):
         own = [row for row in rows if row.package == package]

@@ -75,7 +75,7 @@ for words in (["-f"], ["--compile"], ["--generate", "2"], ["-fm", "*.x"], ["--co
 assert start("-f").stdout == subprocess.run([PROGRAM, "-f"], cwd="p", capture_output=True).stdout
 assert start("-fm", "*n=1.left").stdout == b"lib, wide.vhd\nListed 1 files\n"
 
-# Cases alone: what no configuration is for runs as it is; in one simulation there is no such thing.
+# Cases alone: a case without a configuration runs normally; one simulation cannot have such cases.
 project(configuration("lib.tb_wide", "l", case="left") + configuration("lib.tb_one", "a", case="a"))
 IN_ONE = "vunit_configs: lib.tb_one has a configuration of some cases, a, and all of them run in one simulation"
 check("of some cases", start("-p", "4"), 1, BUILT + tests(f" {IN_ONE}", "ftb_one.a.a", "ptb_other.x", "ptb_other.y", "ptb_whole.all",

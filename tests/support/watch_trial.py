@@ -1,4 +1,4 @@
-"""wrappers/vunit_watch over projects that are edited: which edits cause a run, what is printed, and what is left of it."""
+"""wrappers/vunit_watch over projects that are edited: which edits cause a run, the output, and the leftovers."""
 
 import fcntl, os, shutil, signal, subprocess, sys, threading, time
 
@@ -90,7 +90,7 @@ exec {program} "$@"
         return self.said.count(b"waits for a change\n")
 
     def expect(self, name, runs):
-        """Waits until there have been so many runs, and the last of them has ended."""
+        """Waits until this number of runs was made, and the last of them has ended."""
         until = time.monotonic() + PATIENCE
         while (self.runs() < runs or self.waits() < runs) and time.monotonic() < until:
             time.sleep(0.02)
@@ -180,7 +180,7 @@ def failures():
 
 
 def endings():
-    """A change during a run ends it with its children, and so does a signal."""
+    """A change during a run ends it with its children, as does a signal."""
     slow = script("slow", 'echo $$ >>"$PIDS"; exec sleep 300\n')
     os.environ["PIDS"] = pids = os.path.abspath("pids")
     project("project", {"vunit.toml": toml({"lib": ["*.vhd"]}, [slow]), "a.vhd": package("a")})
