@@ -1,14 +1,17 @@
 #!/bin/sh
 # Documents are in plain English: a page never uses the phrases below, and no sentence has more than 35 words. Fenced blocks,
-# quotations, links and the pages made of comments in the sources do not count; code between backticks is one word. Ends with 0,
-# with 1 if there is a fault, and with 77 if python3 is missing.
+# quotations, links and the pages made of comments in the sources do not count; code between backticks is one word. Comments of
+# scripts, wrappers and benches have at most 50 such faults; indented lines in them do not count. Ends with 0, with 1 if there
+# are faults, and with 77 if python3 is missing.
 cd -- "${TOP:-$(dirname -- "$0")/..}" || exit 1
 . tests/support/needs.sh
 needs python3
 exec python3 - <<'END'
-import pathlib, re, sys
+import ast, inspect, pathlib, re, sys
 
 LONG = 35
+IN_COMMENTS = 50
+FOLDERS = ("wrappers", "bin", "tests", "bench", ".ci")
 MADE = ("docs/proof/DEFINITIONS.md", "docs/proof/CALLS.md")  # by tests/support/proof_pages.py
 PHRASES = re.compile(r"\b(?:" + "|".join((
     # statuses without their noun: say "out of date", "up to date", "unchanged"
@@ -49,10 +52,30 @@ def faults(text):
             if count > LONG:
                 yield f"{count} words: {sentence[:100]} .."
 
+def comments(path, text):
+    """The comments of a script, a module or a package in VHDL, without their indented lines: blocks of lines, and docstrings."""
+    is_python = path.suffix == ".py" or "python" in text.partition("\n")[0]
+    if is_python:
+        tree = ast.walk(ast.parse(text))
+        documented = (ast.Module, ast.ClassDef, ast.FunctionDef)
+        yield from (inspect.cleandoc(ast.get_docstring(node) or "") for node in tree if isinstance(node, documented))
+    mark = "--" if path.suffix == ".vhd" else "#"
+    yield from re.sub(rf"^ *{mark} ?", "", "\n".join(
+        line if re.match(rf" *{mark}(?!!)", line) else "" for line in text.splitlines()), flags=re.M).split("\n\n")
+
+def faults_of_comments():
+    """The faults of all comments."""
+    for path in sorted(path for folder in FOLDERS for path in pathlib.Path(folder).rglob("*")):
+        if path.suffix in ("", ".py", ".sh", ".vhd") and path.is_file() and "data" not in path.parts:
+            for text in comments(path, path.read_text(errors="replace")):
+                for fault in faults(re.sub(r"^(?:  |\t).*$", "\n", text, flags=re.M)):
+                    yield f"{path}: {fault}"
+
 pages = [pathlib.Path("README.md"), pathlib.Path("CHANGES.md"), *sorted(pathlib.Path("docs").rglob("*.md"))]
 pages = [page for page in pages if str(page) not in MADE]
 found = [f"{page}: {fault}" for page in pages for fault in faults(page.read_text())]
-print(*found, sep="\n", end="\n" if found else "")
-print(f"{len(found)} in {len(pages)} pages")
-sys.exit(1 if found else 0)
+in_comments = list(faults_of_comments())
+print(*found, *(in_comments if len(in_comments) > IN_COMMENTS else ()), sep="\n", end="\n")
+print(f"{len(found)} in {len(pages)} pages, {len(in_comments)} in comments")
+sys.exit(1 if found or len(in_comments) > IN_COMMENTS else 0)
 END
