@@ -75,7 +75,8 @@ pages = [pathlib.Path("README.md"), pathlib.Path("CHANGES.md"), *sorted(pathlib.
 pages = [page for page in pages if str(page) not in MADE]
 found = [f"{page}: {fault}" for page in pages for fault in faults(page.read_text())]
 in_comments = list(faults_of_comments())
-print(*found, *(in_comments if len(in_comments) > IN_COMMENTS else ()), sep="\n", end="\n")
+named = found + (in_comments if len(in_comments) > IN_COMMENTS else [])
+print(*named, sep="\n", end="\n" if named else "")
 print(f"{len(found)} in {len(pages)} pages, {len(in_comments)} in comments")
 sys.exit(1 if found or len(in_comments) > IN_COMMENTS else 0)
 END
