@@ -1,7 +1,9 @@
 """The command behind the cache: it is found, and run over a request, and neither it nor a file is left whatever ends the wrapper."""
 
 import _signal as signal
-import os, select, time
+import sys, time
+
+import quick_os as os
 
 NO_ANSWER = 75
 ENDING = (signal.SIGINT, signal.SIGTERM, signal.SIGHUP)
@@ -14,7 +16,10 @@ IN_MEMORY = 67_108_864
 ENDS_WITHIN = 20
 # Milliseconds between two looks at a command, where its end can't be waited for.
 LOOK = 50
-BESIDE = [os.path.join(os.path.dirname(os.path.realpath(os.fsencode(__file__))), name) for name in (b"ghdl_analyse", b"ghdl_bench")]
+# So many links in a row are followed, as by the system.
+MOST_LINKS = 40
+# Wrappers that run within this process, where the command is the one that lies beside this one.
+BESIDE = {b"ghdl_analyse", b"ghdl_bench"}
 
 
 class NoAnswer(Exception):
@@ -53,14 +58,25 @@ def become(command, words):
 
 
 def found(name, passed_over):
-    """The first command of this name in PATH that is not a link to a program of these names."""
-    folders = [b""] if b"/" in name else os.environb.get(b"PATH", os.fsencode(os.defpath)).split(b":")
+    """The first command of this name in PATH that is no link to a program of these names."""
+    folders = [b""] if b"/" in name else os.environb.get(b"PATH", os.defpath).split(b":")
     for folder in folders:
         path = os.path.join(folder, name)
         is_command = os.path.isabs(path) and os.path.isfile(path) and os.access(path, os.X_OK)
-        if is_command and os.path.basename(os.path.realpath(path)) not in passed_over:
+        if is_command and program_of(path)[1] not in passed_over:
             return path
     return None
+
+
+def program_of(command):
+    """Folder and name of the file to which the links of a command lead, whose folder may itself be a link."""
+    try:
+        for _ in range(MOST_LINKS):
+            command = os.path.join(os.path.dirname(command), os.readlink(command))
+    except OSError:
+        # (it is no link any more)
+        pass
+    return os.path.split(command)
 
 
 def read_request():
@@ -76,8 +92,8 @@ def read_request():
 def spool(data):
     import mmap
 
-    base = os.environ.get("TMPDIR") or "/tmp"
-    name = os.path.join(base, "over_cache_" + os.urandom(16).hex())
+    base = os.environb.get(b"TMPDIR") or b"/tmp"
+    name = os.path.join(base, b"over_cache_" + os.urandom(16).hex().encode())
     file = os.open(name, os.O_RDWR | os.O_CREAT | os.O_EXCL | os.O_CLOEXEC, 0o600)
     os.unlink(name)
     while data:
@@ -119,7 +135,6 @@ class Input:
 
 def run_beside(module, words, data):
     """Runs a wrapper that lies beside this one within this process: a start of an interpreter takes longer than all else here."""
-    import sys
     from ghdl_keeper import answer_of
 
     sys.argv[1:], sys.stdin = map(os.fsdecode, words[1:]), Input(data)
@@ -130,8 +145,11 @@ def run_beside(module, words, data):
 
 def module_of(command):
     """The module of a wrapper of GHDL that is the one that lies beside this one, or None."""
-    path = os.path.realpath(command)
-    return os.fsdecode(os.path.basename(path)) if path in BESIDE else None
+    folder, name = program_of(command)
+    if name not in BESIDE:
+        return None
+    here, there = os.stat(os.path.dirname(os.fsencode(__file__))), os.stat(folder)
+    return os.fsdecode(name) if (here.st_ino, here.st_dev) == (there.st_ino, there.st_dev) else None
 
 
 class Command:
@@ -145,7 +163,7 @@ class Command:
         signal.pthread_sigmask(signal.SIG_BLOCK, ENDING)
         try:
             streams = [(os.POSIX_SPAWN_DUP2, pipe, at) for at, pipe in enumerate((request, output, error))]
-            self.child = os.posix_spawn(path, words, os.environ, file_actions=streams, setsigmask=(), setsigdef=USUAL_AGAIN)
+            self.child = os.posix_spawn(path, words, os.environb, file_actions=streams, setsigmask=(), setsigdef=USUAL_AGAIN)
         except OSError as fault:
             raise NoAnswer(f"{os.fsdecode(path)}: {fault.strerror}")
         finally:
@@ -166,6 +184,8 @@ class Command:
         return os.waitstatus_to_exitcode(self.status), self.texts[self.output], error if len(error) <= ERROR_LIMIT else None
 
     def take_all(self):
+        import select
+
         waiting, watched = select.poll(), self.watched()
         for descriptor in (self.output, self.error, *watched):
             waiting.register(descriptor, select.POLLIN)

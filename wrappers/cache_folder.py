@@ -12,12 +12,9 @@ so that an entry means the same text in whichever folder it lies. What cannot be
 docs/FORMATS.md has the bytes.
 """
 
-# Why it is so: With a nonce in the name of each text any tool can merge two folders, at worst with equal texts stored twice.
-# Files are made without a name and then linked (O_TMPFILE), so a killed start leaves none. Elsewhere trimming removes
-# leftovers.
+import time
 
-import os, time
-
+import quick_os as os
 from cache_command import write_all
 from cache_hash import SUM, TEXT_DIGEST, sum_of, text_digest
 from cache_request import with_length
@@ -319,9 +316,9 @@ class CacheFolder:
         return b"".join(found)
 
     def add_part(self, outline, part):
-        data = bytes(outline.view[part.begin : part.end])
-        length = len(data).to_bytes(4, "little")
-        return INLINE + length + data if part.digest is None else TEXT + length + self.add_text(data, part.digest)
+        begin, end, digest = part
+        data, length = bytes(outline.view[begin:end]), (end - begin).to_bytes(4, "little")
+        return INLINE + length + data if digest is None else TEXT + length + self.add_text(data, digest)
 
     def keep(self, asked, outline, found, answer):
         """Adds an entry; gives the one that is there then, which is another one's where that came first."""

@@ -1,11 +1,8 @@
 """A request as the cache sees it: bytes between its texts, and the texts that are stored once. docs/FORMATS.md has requests."""
 
-from struct import Struct
-
 from cache_hash import entry_digest, text_digest
 
 COMPILE, BENCH = b"VRC1", b"VRB1"
-NUMBER = Struct("<I").unpack_from
 # A shorter text stays among the bytes between texts.
 SHORTEST = 256
 
@@ -28,7 +25,7 @@ class Reader:
         end = self.at + 4
         if end > self.length:
             raise Malformed()
-        value = NUMBER(self.data, self.at)[0]
+        value = int.from_bytes(self.data[self.at : end], "little")
         self.at = end
         return value
 
@@ -44,18 +41,10 @@ class Reader:
         return bytes(self.data[begin:end])
 
 
-class Part:
-    """Bytes of a request from `begin` to `end`: a text that is stored once where they have a digest."""
-
-    __slots__ = "begin", "end", "digest"
-
-    def __init__(self, begin, end, found=None):
-        self.begin, self.end, self.digest = begin, end, found
-
-
 class Outline:
-    """The parts of a request. `files_at` is the first part that belongs to the built files, each of which has two; `names` are library and
-    path, or library, bench, cases, results path and configuration of a bench."""
+    """The parts of a request, each as where it begins and ends, and its digest where it is a text that is stored once. `files_at` is the
+    first part that belongs to the built files, each of which has two; `names` are library and path, or library, bench, cases, results path
+    and configuration of a bench."""
 
     def __init__(self, data):
         self.data, self.view, self.parts, self.begin = data, memoryview(data), [], 0
@@ -63,7 +52,7 @@ class Outline:
         reader = Reader(data)
         if self.kind == COMPILE:
             self.names = reader.value(), reader.value()
-            self.add_text(reader)
+            self.add_text(*reader.text())
         elif self.kind == BENCH:
             library, bench, _ = reader.value(), reader.value(), reader.value()
             cases = [reader.value() for _ in range(reader.number())]
@@ -72,28 +61,36 @@ class Outline:
         else:
             raise Malformed()
         count = reader.number()
-        self.add(Part(self.begin, reader.at))
+        self.add(reader.at)
         self.files_at = len(self.parts)
-        for _ in range(count):
-            reader.text()
-            reader.text()
-            self.add_text(reader, is_file=True)
-        if reader.at != reader.length:
-            raise Malformed()
+        self.add_built(count, reader.at)
 
-    def add(self, part):
-        self.parts.append(part)
-        self.begin = part.end
+    def add(self, end, found=None):
+        """Adds what stands between the last part and this end."""
+        self.parts.append((self.begin, end, found))
+        self.begin = end
 
-    def add_text(self, reader, is_file=False):
-        """Adds a text, and what stands before it; of a file these are always two parts."""
-        begin, end = reader.text()
+    def add_text(self, begin, end):
+        """Adds a text that is long enough, and what stands before it."""
         if end - begin >= SHORTEST:
-            self.add(Part(self.begin, begin))
-            self.add(Part(begin, end, text_digest(self.view[begin:end])))
-        elif is_file:
-            self.add(Part(self.begin, begin))
-            self.add(Part(begin, end))
+            self.add(begin)
+            self.add(end, text_digest(self.view[begin:end]))
+
+    def add_built(self, count, at):
+        """Adds the built files, of which there may be thousands: the two names of each with the length of its text, and the text."""
+        data, view, length, number, begin = self.data, self.view, len(self.data), int.from_bytes, at
+        for _ in range(count):
+            at += 4 + number(data[at : at + 4], "little")
+            at += 4 + number(data[at : at + 4], "little")
+            text = at + 4
+            at = text + number(data[at:text], "little")
+            if at > length:
+                raise Malformed()
+            self.parts += (begin, text, None), (text, at, text_digest(view[text:at]) if at - text >= SHORTEST else None)
+            begin = at
+        if at != length:
+            raise Malformed()
+        self.begin = at
 
     def add_files(self, files):
         """Has paths and bytes of these files belong to the request."""
@@ -102,10 +99,10 @@ class Outline:
             more += with_length(path) + with_length(text)
             end = base + len(more)
             if len(text) >= SHORTEST:
-                self.add(Part(self.begin, end - len(text)))
-                self.add(Part(end - len(text), end, text_digest(text)))
+                self.add(end - len(text))
+                self.add(end, text_digest(text))
             else:
-                self.add(Part(self.begin, end))
+                self.add(end)
         # (the request itself is the command's)
         self.data = bytearray(self.data)
         self.data += more
@@ -113,8 +110,8 @@ class Outline:
 
     def digest_with(self, asked):
         """By this an entry is found."""
-        found = [asked]
-        for part in self.parts:
-            length = (part.end - part.begin).to_bytes(4, "little")
-            found += [b"\0", length, self.view[part.begin : part.end]] if part.digest is None else [b"\1", length, part.digest]
+        found, view = [asked], self.view
+        for begin, end, digest in self.parts:
+            length = (end - begin).to_bytes(4, "little")
+            found += (b"\0", length, view[begin:end]) if digest is None else (b"\1", length, digest)
         return entry_digest(b"".join(found))

@@ -4,13 +4,11 @@ answer.
 It lies in over_cache_UID in TMPDIR, and is trusted only where nobody else may write it. Everything may be lost at any time.
 """
 
-# Why it is so:
-# Keys are remembered for each user on each machine, since they rest on inodes and times. In the folder of the cache another
-# user could inject his own tool's artefacts.
+import time
 
-import os, time
-
-from cache_hash import entry_digest
+import quick_os as os
+from cache_folder import read_file
+from cache_hash import SUM, entry_digest, sum_of
 
 # Seconds: that a folder has to answer, that one counts as missing that didn't, and between two times that the same is said.
 ANSWERS_WITHIN, AWAY, SAID_AGAIN = 2, 300, 300
@@ -23,7 +21,7 @@ def named(words):
 
 class LocalState:
     def __init__(self):
-        base = os.fsencode(os.environ.get("TMPDIR") or "/tmp")
+        base = os.environb.get(b"TMPDIR") or b"/tmp"
         self.folder = b"%s/over_cache_%d" % (base, os.getuid())
         try:
             try:
@@ -64,17 +62,17 @@ class LocalState:
 
     def remember(self, kind, words, text):
         name = named(words)
-        self.write(self.path(kind, *words), b"%d\n%s%s" % (len(name), name, text))
+        data = b"%d\n%s%s" % (len(name), name, text)
+        self.write(self.path(kind, *words), data + sum_of(data))
 
     def remembered(self, kind, words):
         """What was remembered under just these words, or nothing."""
-        try:
-            with open(self.path(kind, *words), "rb") as file:
-                length, _, text = file.read().partition(b"\n") if self.is_ours else (b"0", b"", b"")
-            name = named(words)
-            return text[len(name) :] if length == b"%d" % len(name) and text.startswith(name) else b""
-        except OSError:
+        name = named(words)
+        stored = read_file(b"%s/%s_%s" % (self.folder, kind, entry_digest(name).hex().encode())) if self.is_ours else None
+        if not stored or sum_of(stored[0][:-SUM]) != stored[0][-SUM:]:
             return b""
+        head = b"%d\n%s" % (len(name), name)
+        return stored[0][len(head) : -SUM] if stored[0].startswith(head) else b""
 
     def say_once(self, text):
         """Says something that each start would say, once in a while. (Starts at the same time may each say it.)"""
@@ -115,8 +113,8 @@ def ask_folder(folder, ended):
     """Asks the folder for the file of its limit, and ends. The end of the pipe says so; the other streams are let go, so that nobody waits
     for what hangs."""
     try:
-        for descriptor in (0, 1, 2, ended):
-            os.close(descriptor)
+        os.closerange(0, 3)
+        os.close(ended)
         file = os.open(folder + b"/limit", os.O_RDONLY)
         os.read(file, 1)
     except OSError:

@@ -1,7 +1,8 @@
 """What the wrappers of GHDL say for `--cache-key WORDS`, by cache_key.py: all that an answer depends on beside the request and the words.
-That is GHDL with its own libraries, the files of this folder, vunit_lib, the library files below each -P, and the kind of the processor."""
+That is GHDL with its own libraries, the wrapper's own files and those of over_cache, vunit_lib, the library files below each -P, and the
+kind of the processor."""
 
-import hashlib, os, subprocess, sys
+import hashlib, os, re, subprocess, sys
 
 from cache_key import FORM, line_of
 from ghdl_keeper import command_in
@@ -12,8 +13,9 @@ WRAPPERS = os.path.dirname(os.fsencode(SHIPPED))
 LIBRARIES = b"library directory: "
 # Folders in which no library file is looked for: what the runner and Python write there changes all the time.
 PASSED_OVER = {b"vunit_out", b"__pycache__"}
-
-BUILT = b"over_cache_hit"
+# What each start has a part of, and how its modules name others. (Of what is built on a machine the source counts.)
+STARTS = [b"start_python.sh", b"start_module.py", b"over_cache_hit.c", b"over_cache"]
+IMPORT = re.compile(rb'^ *(?:from (\w+) import|import ([\w, ]+))|__import__\("(\w+)"\)', re.MULTILINE)
 
 
 class Rests:
@@ -67,6 +69,19 @@ class Rests:
                     self.sum_file(b"%s/%s" % (name, inner), path)
 
 
+def own_files(program):
+    """The files of this folder that have a part in an answer of a wrapper: what it and over_cache import, however indirectly."""
+    there, found, left = set(os.listdir(WRAPPERS)), set(), [*STARTS, program, b"over_cache.py", program + b".py"]
+    while left:
+        name = left.pop()
+        if name not in found:
+            found.add(name)
+            with open(os.path.join(WRAPPERS, name), "rb") as file:
+                modules = b" ".join(b" ".join(groups) for groups in IMPORT.findall(file.read()))
+            left += there.intersection(module + b".py" for module in modules.replace(b",", b" ").split())
+    return sorted(found)
+
+
 def said_by(command, word):
     ran = subprocess.run([command, word], stdin=subprocess.DEVNULL, stdout=subprocess.PIPE, stderr=subprocess.STDOUT, timeout=20,
                          env={"PATH": os.environ.get("PATH", os.defpath)})
@@ -99,11 +114,8 @@ def main(program, words):
         sys.exit(f"{program}: ghdl: {fault}")
     rests.note(WRAPPERS)
     at = len(rests.key)
-    for name in sorted(os.listdir(WRAPPERS)):
-        path = os.path.join(WRAPPERS, name)
-        # (what is built on a machine answers as its source says)
-        if os.path.isfile(path) and not (name.startswith(BUILT) and not name.endswith(b".c")):
-            rests.sum_file(b"wrappers/" + name, path)
+    for name in own_files(os.fsencode(program)):
+        rests.sum_file(b"wrappers/" + name, os.path.join(WRAPPERS, name))
     rests.sum_up(at, b"wrappers")
     at = len(rests.key)
     rests.sum_below(b"vunit_lib", os.fsencode(SHIPPED))

@@ -19,8 +19,9 @@ the program, a closed standard output counting as SIGPIPE; and with 75 without a
 # takes 16 ms, where a quarter of ghdl_analyse's 38 was wanted.
 
 import _signal as signal
-import os, sys
+import sys
 
+import quick_os as os
 from cache_command import NO_ANSWER, NoAnswer, Stopped, become, found, read_request, run_command, take_signals, write_all
 from cache_folder import CacheFolder, Refused
 from cache_key import key_of
@@ -77,10 +78,11 @@ class Cache:
 
     def __init__(self, state, path):
         self.folder, self.state = None, state
-        path = os.path.abspath(path)
+        path = os.path.abspath(path.rstrip(b"/") or b"/")
         # (over_cache_hit has found no entry there, by a key that stood)
         self.was_looked = os.environb.pop(b"OVER_CACHE_LOOKED", None) == path
-        self.is_written = os.environ.get("OVER_CACHE_READ_ONLY") != "1"
+        os.unsetenv(b"OVER_CACHE_LOOKED")
+        self.is_written = os.environb.get(b"OVER_CACHE_READ_ONLY") != b"1"
         try:
             if self.was_looked or state.answers(path):
                 self.folder = CacheFolder(path, self.is_written)
@@ -163,11 +165,11 @@ def end_as(code):
 def start(words):
     name, *words = words
     # (on the other side of an engine, whose links there are no commands: the cache was asked on this one)
-    is_inside = "OVER_ENGINE_INSIDE" in os.environ
+    is_inside = b"OVER_ENGINE_INSIDE" in os.environb
     command = found(name, GO_BETWEENS if is_inside else {PROGRAM})
     if not command:
         raise NoAnswer(f"there is no command {os.fsdecode(name)} behind this one in PATH")
-    if is_inside or not os.environ.get("OVER_CACHE") or words[:1] == [b"--cache-key"]:
+    if is_inside or not os.environb.get(b"OVER_CACHE") or words[:1] == [b"--cache-key"]:
         become(command, [name, *words])
     take_signals()
     code, output, error = answer_of(name, words, command)

@@ -261,32 +261,18 @@ static void state_path(const char *kind, const Bytes *named, char *path) {
     snprintf(path, PATH_MAX, "%.3000s/%s_%s", state_folder, kind, text);
 }
 
-/* Whether the file or the nothing of a line of a key is as it was. */
-static int line_stands(char *line) {
-    char *path = strrchr(line, ' '), *to;
-    char state[160];
+/* Where the line of a state ends that is a file's, a folder's or nothing's as it is now; NULL where it is another one. */
+static const char *state_end(const char *state, const char *path) {
+    char present[160] = "absent\n";
     struct stat found;
-    if (!path) return 0;
-    *path++ = 0;
-    to = path;
-    for (char *from = path; *from; from++) {
-        unsigned value;
-        char digits[3] = {from[0] == '=' ? from[1] : 0, from[0] == '=' && from[1] ? from[2] : 0, 0};
-        if (*from == '=' && digits[0] && digits[1] && strspn(digits, "0123456789abcdef") == 2) {
-            sscanf(digits, "%x", &value);
-            *to++ = (char)value;
-            from += 2;
-        } else {
-            *to++ = *from;
-        }
-    }
-    *to = 0;
-    if (stat(path, &found) != 0) return errno == ENOENT && strcmp(line, "absent") == 0;
-    snprintf(state, sizeof state, "rests %lld %lld %lld %llu %llu", (long long)found.st_size,
-             (long long)found.st_mtim.tv_sec * 1000000000 + found.st_mtim.tv_nsec,
-             (long long)found.st_ctim.tv_sec * 1000000000 + found.st_ctim.tv_nsec, (unsigned long long)found.st_ino,
-             (unsigned long long)found.st_dev);
-    return strcmp(line, state) == 0;
+    if (stat(path, &found) == 0)
+        snprintf(present, sizeof present, "%lld %lld %lld %llu %llu\n", (long long)found.st_size,
+                 (long long)found.st_mtim.tv_sec * 1000000000 + found.st_mtim.tv_nsec,
+                 (long long)found.st_ctim.tv_sec * 1000000000 + found.st_ctim.tv_nsec, (unsigned long long)found.st_ino,
+                 (unsigned long long)found.st_dev);
+    else if (errno != ENOENT)
+        return NULL;
+    return strncmp(state, present, strlen(present)) == 0 ? state + strlen(present) : NULL;
 }
 
 /* Adds to what is asked the key that was remembered for the command; 0 where that doesn't stand. */
@@ -299,25 +285,26 @@ static int add_key(Bytes *asked, const char *command, const char *path, char **w
     add_named(&named, path);
     add_named(&named, present);
     for (char **word = words; *word; word++) add_named(&named, *word);
-    state_path("key", &named, file);
-    if (!read_file(file, &memo, &found, MEMO_LIMIT)) return 0;
+    state_path("key_2", &named, file);
+    if (!read_file(file, &memo, &found, MEMO_LIMIT) || !has_sum(memo.data, memo.length)) return 0;
+    memo.data[memo.length - SUM] = 0;
     char *text = (char *)memo.data, *end;
     if (strtoull(text, &end, 10) != named.length || *end != '\n') return 0;
     text = end + 1;
     if (memo.length - (size_t)(text - (char *)memo.data) < named.length || memcmp(text, named.data, named.length) != 0) return 0;
     text += named.length;
-    double when = strtod(text, &end);
-    if (strncmp(end, "\ncache_key 1\n", 13) != 0) return 0;
-    char *key = strstr(end, "\nkey\n");
-    if (!key) return 0;
-    *key = 0;
-    for (char *line = strtok(end + 13, "\n"); line; line = strtok(NULL, "\n")) {
-        double size, changed, made;
-        if (sscanf(line, "rests %lf %lf %lf", &size, &changed, &made) == 3 && (changed > made ? changed : made) / 1e9 + 2 >= when) return 0;
-        if (!line_stands(line)) return 0;
-    }
-    key += 5;
-    size_t length = memo.length - (size_t)(key - (char *)memo.data);
+    const char *last = (char *)memo.data + memo.length - SUM;
+    unsigned long long count = strtoull(text, &end, 10), size = strtoull(end, &end, 10);
+    if (*end != '\n') return 0;
+    const char *paths = end + 1, *state = paths;
+    for (unsigned long long left = count; left; left--)
+        if ((state += strlen(state) + 1) > last) return 0;
+    const char *key = state + size;
+    if (size > (size_t)(last - state)) return 0;
+    for (; count; count--, paths += strlen(paths) + 1)
+        if (!(state = state_end(state, paths))) return 0;
+    if (state != key) return 0;
+    size_t length = (size_t)(last - key);
     const char *own = getenv("OVER_CACHE_KEY");
     if (!length && !(own && *own)) return 0;
     add_with_length(asked, key, length);

@@ -5,7 +5,7 @@ import sys
 from posix import *
 from posix import _exit, environ as environb
 
-SEEK_END, devnull, defpath = 2, b"/dev/null", b"/bin:/usr/bin"
+SEEK_SET, SEEK_END, devnull, defpath = 0, 2, b"/dev/null", b"/bin:/usr/bin"
 KIND, FOLDER, FILE, LINK = 0o170000, 0o040000, 0o100000, 0o120000
 
 
@@ -47,13 +47,25 @@ class path:
     def dirname(name):
         return path.split(name)[0]
 
+    def basename(name):
+        return path.split(name)[1]
+
     def split(name):
         at = name.rfind(b"/") + 1
         folder = name[:at]
         return (folder if not folder.strip(b"/") else folder.rstrip(b"/")), name[at:]
 
+    def isabs(name):
+        return name.startswith(b"/")
+
     def abspath(name):
         return path.join(getcwdb(), name)
+
+    def exists(name):
+        return kind_of(name) is not None
+
+    def lexists(name):
+        return kind_of(name, follows=False) is not None
 
     def isdir(name):
         return kind_of(name) == FOLDER

@@ -87,11 +87,32 @@ def other_tools():
         file.write("-- another one\n")
     build(4)
     build(0)
+    # (a tool that takes no part)
+    with open(os.path.join(copy, "vunit_report.py"), "a") as file:
+        file.write("# another one\n")
+    build(0)
     with open(os.path.join(copy, "ghdl_library.py"), "a") as file:
         file.write("# another one\n")
     build(4)
     team.link(WRAPPERS)
     build(0)
+
+
+def modules_in_keys():
+    """A key rests on each module of the wrappers that a start loads."""
+    team = Team("modules")
+    data = b"".join(fields(b"lib", b"a.vhd", b"package a is\nend package a;\n"))
+    for name, code in ("ghdl_analyse", 0), ("ghdl_bench", 2):
+        said = subprocess.run([os.path.join(WRAPPERS, name), "--cache-key"], capture_output=True, env=team.environment(), check=True).stdout
+        rests = {os.path.basename(line.split(b" ")[-1]).decode() for line in said.split(b"\n") if line.startswith(b"rests ")}
+        assert {name, "over_cache", "over_cache_hit.c", "start_python.sh", "start_module.py"} <= rests, rests
+        for words in (name, ""), ("over_cache", "", name):
+            ran = subprocess.run([sys.executable, "-IS", "-X", "importtime", os.path.join(WRAPPERS, "start_module.py"), *words], input=data,
+                                 capture_output=True, env=team.environment())
+            assert ran.returncode == code, ran
+            loaded = {line.split(b"|")[-1].strip().decode() + ".py" for line in ran.stderr.split(b"\n") if line.startswith(b"import time:")}
+            own = loaded & {*os.listdir(WRAPPERS)}
+            assert name + ".py" in own and own <= rests, f"{name}: {own - rests}"
 
 
 def libraries_beside():
@@ -183,6 +204,6 @@ def another_zlib():
     assert team.starts() == 1
 
 
-works = [second_clone, switched_branch, changed_comment, other_tools, libraries_beside, before_an_engine, another_zlib]
+works = [second_clone, switched_branch, changed_comment, other_tools, modules_in_keys, libraries_beside, before_an_engine, another_zlib]
 # (words name some of them)
 all_at_once([work for work in works if work.__name__ in (sys.argv[1:] or [work.__name__])], 3)

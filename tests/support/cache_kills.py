@@ -19,7 +19,7 @@ def _counted(call, halve=False):
     return counted
 
 
-left = [int(os.environ.get("KILL_AT", "0"))]
+left = [int(os.environb.get(b"KILL_AT", b"0"))]
 os.write = _counted(os.write, True)
 for _name in ("open", "link", "symlink", "mkdir", "unlink", "rename", "fchmod", "chmod", "utime", "close"):
     setattr(os, _name, _counted(getattr(os, _name)))
