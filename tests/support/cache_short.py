@@ -1,8 +1,11 @@
 """The short way of a hit, which is compiled: it answers without an interpreter, and hands over what isn't usual. Works in the present folder."""
 
-import os, shutil, time
-from cache_places import HIT, WRAPPERS, CachePlace, artefact_of, request
+import hashlib, os, shutil, subprocess, time
+from cache_places import HIT, WRAPPERS, CachePlace, request
 from compile_requests import fields
+
+# The bytes of the longest artefact.
+ARTEFACT = 262_144
 
 
 def without_interpreter():
@@ -37,22 +40,42 @@ def marks_use():
     assert all(used())
 
 
-def long_request():
-    """One that doesn't wait in memory."""
+def long_request(count):
+    """One that doesn't wait in memory, over so many of the longest artefacts. It is as long as one artefact more: 8,191 are 2^31 bytes."""
     place = CachePlace("long")
-    for filler in bytes(200_000), os.urandom(100):
-        long = long_of(filler)
-        found = place.run(long, seconds=280)
-        assert found == (0, artefact_of(long), b""), "another answer"
-        assert place.starts() == 1
-        assert place.run(long, seconds=280) == found and place.starts() == 0
+    for filler in b"0" * 100, os.urandom(100):
+        length, wanted = write_long(place.path("request"), count, filler)
+        for starts in 1, 0:
+            with open(place.path("request"), "rb") as file:
+                ran = subprocess.run([place.path("links", "made")], stdin=file, capture_output=True, cwd=place.folder, env=place.given({}))
+            assert (ran.returncode, ran.stdout, ran.stderr) == (0, wanted, b""), f"{length} bytes: it is {ran}"
+            assert place.starts() == starts, f"{length} bytes: it wasn't {starts} starts"
+    print(f"tried: a request of {length} bytes")
 
 
-def long_of(filler):
-    used = [(b"lib", b"d%d.vhd" % at, filler + b"%d" % at + bytes(250_000 - len(filler))) for at in range(290)]
-    return b"".join(fields(b"lib", b"a.vhd", b"x", used))
+def write_long(path, count, filler):
+    """Writes such a request. Gives its length, and what the compiler makes of it."""
+    used = [(b"lib", b"d%d.vhd" % at) for at in range(count)]
+    source = bytes(ARTEFACT - len(b"".join(fields(b"lib", b"a.vhd", b"", [(*names, b"") for names in used]))))
+    found, length = hashlib.sha256(b"\n"), 0
+    with open(path, "wb") as file:
+        for part in parts_of(source, used, filler):
+            found.update(part)
+            length += file.write(part)
+    assert length == (count + 1) * ARTEFACT
+    return length, found.hexdigest().encode() + b"  -\n"
+
+
+def parts_of(source, used, filler):
+    head = b"".join(fields(b"lib", b"a.vhd", source))
+    yield head[:-4] + len(used).to_bytes(4, "little")
+    for at, names in enumerate(used):
+        artefact = filler + b"%d" % at
+        artefact += bytes(ARTEFACT - len(artefact))
+        yield b"".join(len(part).to_bytes(4, "little") + part for part in (*names, artefact))
 
 
 assert os.path.exists(os.path.join(WRAPPERS, HIT)), "nothing was built"
-for work in without_interpreter, marks_use, long_request:
-    work()
+without_interpreter()
+marks_use()
+long_request(int(os.environ.get("LONG", "290")))
