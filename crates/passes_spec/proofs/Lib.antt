@@ -1,0 +1,3 @@
+-- The lemmas.
+pub mod SameTests
+pub mod KnownEnds

@@ -1,0 +1,4 @@
+-- The definitions.
+pub mod Passes
+pub mod KnownRuns
+pub mod PassImages
