@@ -4,3 +4,5 @@ pub mod RunTruths
 mod TestTruths
 mod ActTruths
 mod GenerateTruths
+mod Frames
+pub mod Whole

@@ -34,13 +34,17 @@ use Rattle.vunit_top.specs.Said.{Said, Says, SaysRun, IsSaid, HasEnded, order_of
 
 -- the objects that a run may change
 pub data Object : Type 0 where
+  Input : Object
+  Tree : Object
   Disk : Object
   Children : Object
   Out : Object
   Reports : Object
 
--- what holds of an object, by which one it is
+-- what holds of an object of those that a task may change, by which one it is
 abbrev pub of_each : (disk children out reports : Type 0) → Object → Type 0
+of_each disk children out reports Input = Unit {0}
+of_each disk children out reports Tree = Unit {0}
 of_each disk children out reports Disk = disk
 of_each disk children out reports Children = children
 of_each disk children out reports Out = out

@@ -8,7 +8,7 @@
 //! 4. `run_task` lists, exports, builds or tests.
 //! 5. `build_project` and `build_graph` build and say what became of it.
 
-ghost use Rattle.std.specs.Prelude.{◌≡◌, ◌≤◌, ◌⊎◌, ◌++◌, [], ℕ, List, codes, Option, Some, None, Ok, Err, true, false, IfOk};
+ghost use Rattle.std.specs.Prelude.{◌≡◌, ◌≤◌, ◌⊎◌, ◌++◌, [], ℕ, List, Option, Some, None, Ok, Err, false, IfOk};
 ghost use Rattle.outside.specs.Disks.{added_since};
 ghost use Rattle.outside.specs.FaultCounts.{RunFaultCounts, run_counts, with_build, with_output, with_reports, with_tree};
 ghost use Rattle.run_spec.specs.ChildJournal.{since};
@@ -22,21 +22,17 @@ ghost use Rattle.project_reading.specs.Asked.{AsksFirst, project_paths};
 ghost use Rattle.project_reading.specs.Reading.{SourceReading, Found, project_reading};
 ghost use Rattle.project_reading.specs.Sources.{IsReadProject, LeadsTo};
 ghost use Rattle.base.specs.declared.child.MaybeText.{MaybeText};
-ghost use Rattle.base.specs.declared.child.MaybeText.TheVariants.{Nothing};
-ghost use Rattle.child_tools.specs.Answers.{analysis};
-ghost use Rattle.child_tools.specs.Benches.{simulation};
 ghost use Rattle.report.specs.Listing.{tests_list};
 ghost use Rattle.report.specs.Export.{export_text};
 ghost use Rattle.vunit_top.specs.Store.{records_in_image};
-ghost use Rattle.vunit_top.specs.Acts.{Acts, RunsTests, of_each, seen};
-ghost use Rattle.generated_runs.specs.declared.options.GenerateOptions.{GenerateOptions};
-ghost use Rattle.vunit_top.specs.Generated.{GeneratesAs};
-ghost use Rattle.vunit_top.specs.Ends.{StopCounts, OutCauses, ReportCauses, Writes, WritesReport, WritesResults};
+ghost use Rattle.vunit_top.specs.Acts.{Acts, of_each, seen};
+ghost use Rattle.vunit_top.specs.Did.{Did, Keeps, AreSourcesTold, call_of};
+ghost use Rattle.vunit_top.specs.Ends.{StopCounts, OutCauses, ReportCauses, Writes, WritesReport};
 ghost use Rattle.run_build.specs.Orders.{order_by};
-ghost use Rattle.vunit_top.specs.Reading.{Reading, Testing, Builds, Exports, Runs, HasSlots, reading, full_reading, task_reading, setting_task, words_task, begins_as_child, begins_as_compiler, begins_as_simulator, chosen, is_build, is_run, may_test, may_write, generates, Generates, query_of};
+ghost use Rattle.vunit_top.specs.Reading.{Reading, Testing, Builds, Exports, Runs, HasSlots, full_reading, task_reading, setting_task, chosen, is_build, is_run, may_test, may_write, generates, query_of};
 ghost use Rattle.run_build.specs.Building.{has_risen};
 ghost use Rattle.vunit_top.specs.Runs.{RunsAs, run_of};
-ghost use Rattle.vunit_top.specs.Said.{Said, Says, SaysRun, IsSaid, HasEnded, Causes, IsAccounted, report_path_of, order_of, plan_in, plain_said, build_said, child_said, child_results};
+ghost use Rattle.vunit_top.specs.Said.{Said, Says, SaysRun, IsSaid, HasEnded, Causes, IsAccounted, order_of, plain_said, build_said};
 
 use crate::children::{run_as_compiler, run_as_simulator};
 use crate::ends::{
@@ -381,8 +377,8 @@ fn run_setting<T: Tree, D: Disk, P: Procs, O: Sink, R: Reports>(
         ≡ P.journal procs.old ++ since (P.journal procs.old) (P.journal procs.new)) }
     ensures no_tests { P.tells → may_test (setting_task setting) ≡ false →
         test_part (since (P.journal procs.old) (P.journal procs.new)) ≡ [] }
-    ensures acts { (scan : List ℕ → Finding) → IsScanner scan → T.tells →
-        (words : List (List ℕ)) →
+    ensures acts { (scan : List ℕ → Finding) → IsScanner scan →
+        AreSourcesTold T.tells (setting_task setting) → (words : List (List ℕ)) →
         let sources = project_reading scan (T.file tree.old) (T.listed tree.old) in
         Acts (of_each D.tells P.tells O.tells R.tells)
         (of_each (disk.new ≡ disk.old) (procs.new ≡ procs.old) (out.new ≡ out.old)
@@ -399,11 +395,6 @@ fn run_setting<T: Tree, D: Disk, P: Procs, O: Sink, R: Reports>(
         (disk.new ≡ disk.old) × (procs.new ≡ procs.old) }
     ensures unwritten { (task : Task) → setting_task setting ≡ Ok task → may_write task ≡ false →
         reports.new ≡ reports.old }
-    ensures says_words { O.tells → (r : Reading) → setting_task setting ≡ Err r →
-        (what : Said) → plain_said r ≡ Some what →
-        Says result what (O.contents out.old) (O.contents out.new) }
-    ensures answers_words { (r : Reading) → setting_task setting ≡ Err r →
-        (what : Said) → plain_said r ≡ Some what → IsSaid result → result ≡ what.outcome }
     ensures placed { (result ≡ Outcome.OutsideFault OutsideObject.Tree)
         ⊎ (result ≡ Outcome.OutsideFault OutsideObject.Input) →
         (disk.new ≡ disk.old) × (procs.new ≡ procs.old) × (reports.new ≡ reports.old) }
@@ -454,168 +445,15 @@ pub fn run_vunit<I: Source, T: Tree, D: Disk, P: Procs, O: Sink, R: Reports>(
     reports: &mut R,
 ) -> Outcome
     requires { P.running procs.old ≡ [] }
-
-    // No child runs at the return, the children's answers and the sources are as before, and the journal has grown at its
-    // end alone: by compilers alone, where words alone say that no test is run.
-    ensures running { P.running procs.new ≡ [] }
-    ensures same { P.answer procs.new ≡ P.answer procs.old }
-    ensures sources { T.file tree.new ≡ T.file tree.old }
-    ensures listed { T.listed tree.new ≡ T.listed tree.old }
-    ensures tree_kept { T.kept tree.new ≡ T.kept tree.old }
-    ensures kept { P.tells →
-        (P.journal procs.new
-        ≡ P.journal procs.old ++ since (P.journal procs.old) (P.journal procs.new)) }
-    ensures no_tests { P.tells → may_test (words_task words.now) ≡ false →
-        test_part (since (P.journal procs.old) (P.journal procs.new)) ≡ [] }
-
-    // What the run did is a step of a history, and right from a disk of true records; but for one that generates a project.
-    ensures ran { (scan : List ℕ → Finding) → IsScanner scan → T.tells → D.tells → P.tells →
-        generates (words_task words.now) ≡ false →
-        RunsAs scan (P.answer procs.old)
-        (reading scan words.now (record { file = T.file tree.old; listed = T.listed tree.old }))
-        (run_of words.now result
-        (has_risen (D.failed_disk_calls disk.old) (D.failed_disk_calls disk.new))
-        (since (P.journal procs.old) (P.journal procs.new))
-        (added_since (D.moments disk.old) (D.moments disk.new)))
-        (D.moments disk.old).now (D.moments disk.new).now }
-
-    // Each source is asked for once, in project order: all of them, or the first ones, and then neither the disk nor
-    // children are touched.
-    ensures asked { T.tells → generates (words_task words.now) ≡ false →
-        let paths = project_paths (T.file tree.old) (T.listed tree.old) in
-        (T.asked tree.new ≡ T.asked tree.old ++ paths)
-        ⊎ (AsksFirst paths (T.asked tree.old) (T.asked tree.new)
-        × (disk.new ≡ disk.old) × (procs.new ≡ procs.old)) }
-
-    // A fault of the tree or of the input is answered only before a report, the disk or children are touched.
-    ensures placed { (result ≡ Outcome.OutsideFault OutsideObject.Tree)
-        ⊎ (result ≡ Outcome.OutsideFault OutsideObject.Input) →
-        (disk.new ≡ disk.old) × (procs.new ≡ procs.old) × (reports.new ≡ reports.old) }
-
-    // What isn't needed isn't touched: input but by a child of the program; tree, disk, children and reports where the words
-    // alone say what is done, but for the results of a simulator child and the children of a generated project; disk and
-    // children where nothing is to be built, by the words, and where the sources give nothing to build; reports where none is
-    // to be written, and where the sources give none; the output where nothing is said. All this on every answer.
-    ensures no_input { begins_as_child words.now ≡ false → input.new ≡ input.old }
-    ensures words_alone { (r : Reading) → words_task words.now ≡ Err r →
-        (tree.new ≡ tree.old) × (disk.new ≡ disk.old) }
-    ensures words_idle { (r : Reading) → words_task words.now ≡ Err r →
-        generates (words_task words.now) ≡ false → procs.new ≡ procs.old }
-    ensures words_unwritten { (r : Reading) → words_task words.now ≡ Err r →
-        begins_as_simulator words.now ≡ false → reports.new ≡ reports.old }
-    ensures unbuilt { (task : Task) → words_task words.now ≡ Ok task → is_build task ≡ false →
-        (disk.new ≡ disk.old) × (procs.new ≡ procs.old) }
-    ensures unwritten { (task : Task) → words_task words.now ≡ Ok task → may_write task ≡ false →
-        reports.new ≡ reports.old }
-    ensures unreported { (scan : List ℕ → Finding) → IsScanner scan → T.tells →
-        begins_as_simulator words.now ≡ false →
-        report_path_of (reading scan words.now
-        (record { file = T.file tree.old; listed = T.listed tree.old })) ≡ Nothing →
-        reports.new ≡ reports.old }
-    ensures untouched { (scan : List ℕ → Finding) → IsScanner scan → T.tells →
-        generates (words_task words.now) ≡ false →
-        order_of (reading scan words.now
-        (record { file = T.file tree.old; listed = T.listed tree.old })) ≡ None →
-        (disk.new ≡ disk.old) × (procs.new ≡ procs.old) }
-
-    ensures silent_compiler { (scan : List ℕ → Finding) → IsScanner scan → I.tells →
-        begins_as_compiler words.now ≡ true →
-        (child_said (analysis scan) (I.left input.old)).text ≡ [] → out.new ≡ out.old }
-    ensures silent_simulator { I.tells → begins_as_compiler words.now ≡ false →
-        begins_as_simulator words.now ≡ true →
-        (child_said simulation (I.left input.old)).text ≡ [] → out.new ≡ out.old }
-    ensures silent_export { (scan : List ℕ → Finding) → IsScanner scan → T.tells →
-        (path text : List ℕ) →
-        reading scan words.now (record { file = T.file tree.old; listed = T.listed tree.old })
-        ≡ Exports path text → out.new ≡ out.old }
-
-    // The answer and the text that is put: of a child of the program, which is that of its input; of words alone; of words and
-    // sources with which nothing is built; of a build, by its statuses. The simulator leaves its results first.
-    ensures says_compiler { (scan : List ℕ → Finding) → IsScanner scan → I.tells → O.tells →
-        begins_as_compiler words.now ≡ true →
-        Says result (child_said (analysis scan) (I.left input.old))
-        (O.contents out.old) (O.contents out.new) }
-    ensures says_simulator { I.tells → O.tells → begins_as_compiler words.now ≡ false →
-        begins_as_simulator words.now ≡ true →
-        Says result (child_said simulation (I.left input.old))
-        (O.contents out.old) (O.contents out.new) }
-    ensures leaves_results { I.tells → R.tells → begins_as_compiler words.now ≡ false →
-        begins_as_simulator words.now ≡ true →
-        WritesResults (child_results (I.left input.old)) result
-        (R.report reports.old) (R.report reports.new) }
-    ensures says_words { O.tells → (r : Reading) → words_task words.now ≡ Err r →
-        (what : Said) → plain_said r ≡ Some what →
-        Says result what (O.contents out.old) (O.contents out.new) }
-    ensures says_plain { (scan : List ℕ → Finding) → IsScanner scan → T.tells → O.tells →
-        (what : Said) →
-        plain_said (reading scan words.now
-        (record { file = T.file tree.old; listed = T.listed tree.old })) ≡ Some what →
-        Says result what (O.contents out.old) (O.contents out.new) }
-    ensures says_build { (scan : List ℕ → Finding) → IsScanner scan →
-        T.tells → D.tells → P.tells → O.tells →
-        (order : Order) (warnings : List ℕ) →
-        reading scan words.now (record { file = T.file tree.old; listed = T.listed tree.old })
-        ≡ Builds order warnings →
-        let events = compile_part (since (P.journal procs.old) (P.journal procs.new)) in
-        let statuses = statuses_of (work_over records_in_image order (D.moments disk.old).now) events in
-        Says result (build_said warnings order.graph statuses)
-        (O.contents out.old) (O.contents out.new) }
-    // The answers of these, whatever is told of the output.
-    ensures answers_compiler { (scan : List ℕ → Finding) → IsScanner scan → I.tells →
-        begins_as_compiler words.now ≡ true → IsSaid result →
-        result ≡ (child_said (analysis scan) (I.left input.old)).outcome }
-    ensures answers_simulator { I.tells → begins_as_compiler words.now ≡ false →
-        begins_as_simulator words.now ≡ true → IsSaid result →
-        result ≡ (child_said simulation (I.left input.old)).outcome }
-    ensures answers_words { (r : Reading) → words_task words.now ≡ Err r →
-        (what : Said) → plain_said r ≡ Some what → IsSaid result → result ≡ what.outcome }
-    ensures answers_plain { (scan : List ℕ → Finding) → IsScanner scan → T.tells →
-        (what : Said) →
-        plain_said (reading scan words.now
-        (record { file = T.file tree.old; listed = T.listed tree.old })) ≡ Some what →
-        IsSaid result → result ≡ what.outcome }
-    // So is the answer of a build, by its statuses.
-    ensures answers { (scan : List ℕ → Finding) → IsScanner scan → T.tells → D.tells → P.tells →
-        (order : Order) (warnings : List ℕ) →
-        reading scan words.now (record { file = T.file tree.old; listed = T.listed tree.old })
-        ≡ Builds order warnings →
-        let events = compile_part (since (P.journal procs.old) (P.journal procs.new)) in
-        let statuses = statuses_of (work_over records_in_image order (D.moments disk.old).now) events in
-        IsSaid result → result ≡ build_outcome order.graph statuses }
-
-    // What a run with tests did and said besides its build: its tests come after it, over exactly what was built, which are the
-    // libraries of a clean build from a disk of true records, whatever the answer is.
-    ensures runs { (scan : List ℕ → Finding) → IsScanner scan → T.tells → (asked : Testing) →
-        reading scan words.now (record { file = T.file tree.old; listed = T.listed tree.old })
-        ≡ Runs asked →
-        RunsTests (of_each D.tells P.tells O.tells R.tells) (P.answer procs.old) asked result
-        (seen (P.journal procs.old) (D.moments disk.old) (D.failed_disk_calls disk.old)
-        (O.contents out.old) (R.report reports.old))
-        (seen (P.journal procs.new) (D.moments disk.new) (D.failed_disk_calls disk.new)
-        (O.contents out.new) (R.report reports.new)) }
-    // No test is started where words and sources give no runs of tests.
-    ensures untested { (scan : List ℕ → Finding) → IsScanner scan → T.tells → P.tells →
-        generates (words_task words.now) ≡ false →
-        plan_in (reading scan words.now
-        (record { file = T.file tree.old; listed = T.listed tree.old })) ≡ None →
-        test_part (since (P.journal procs.old) (P.journal procs.new)) ≡ [] }
-
-    // What a run did and said that generates a project: two builds with an edit between, over a tree and a disk of its own, and
-    // the tests of the second.
-    ensures generated { (scan : List ℕ → Finding) → IsScanner scan → P.tells →
-        (options : GenerateOptions) → words_task words.now ≡ Err (Generates options) →
-        GeneratesAs scan (P.answer procs.old) options result O.tells
-        (since (P.journal procs.old) (P.journal procs.new))
-        (O.contents out.old) (O.contents out.new) }
-
-    // The report that is written by an export: the file of its path has exactly the text after `Done`, and no other file is
-    // changed.
-    ensures writes { (scan : List ℕ → Finding) → IsScanner scan → T.tells → R.tells →
-        (path text : List ℕ) →
-        reading scan words.now (record { file = T.file tree.old; listed = T.listed tree.old })
-        ≡ Exports path text →
-        Writes result path text (R.report reports.old) (R.report reports.new) }
-
+    // What it did and said, by what words and sources say, where the sources are told that the words ask for.
+    ensures did { (scan : List ℕ → Finding) → IsScanner scan →
+        Did (call_of I.Source T.Tree D.Disk P.Procs O.Sink R.Reports
+        input.old tree.old disk.old procs.old out.old reports.old
+        input.new tree.new disk.new procs.new out.new reports.new) scan words.now result }
+    // What it leaves as it is, by words alone, whatever is told.
+    ensures keeps { Keeps (call_of I.Source T.Tree D.Disk P.Procs O.Sink R.Reports
+        input.old tree.old disk.old procs.old out.old reports.old
+        input.new tree.new disk.new procs.new out.new reports.new) words.now result }
     // A fault is answered only where its count rose; after any other answer but out of memory all counts are unchanged.
     // No count falls.
     ensures counted { IsAccounted result
@@ -623,6 +461,8 @@ pub fn run_vunit<I: Source, T: Tree, D: Disk, P: Procs, O: Sink, R: Reports>(
         input.old tree.old disk.old procs.old out.old reports.old)
         (run_counts I.Source T.Tree D.Disk P.Procs O.Sink R.Reports
         input.new tree.new disk.new procs.new out.new reports.new) }
+    // No child runs at the return.
+    ensures running { P.running procs.new ≡ [] }
 {
     if begins_with(b"child-analyse", words) {
         return run_as_compiler(alloc, input, out);

@@ -1,9 +1,10 @@
 -- What a run did, by its setting.
-use Rattle.std.proofs.Common.{◌≡◌, Ok, Err, refl}
+use Rattle.std.proofs.Common.{◌≡◌, Ok, Err, refl, subst}
 use Rattle.base.specs.declared.limits.TheConstants.{FILE_LIMIT, SLOT_LIMIT}
 use Rattle.base_outcomes.specs.declared.outcome.Limit.TheVariants as limits
 use Rattle.project_reading.specs.Reading.{project_reading}
 use Rattle.vunit_top.specs.Acts.{of_each}
+use Rattle.vunit_top.specs.Did.{AreSourcesTold}
 use Rattle.vunit_top.specs.Reading.{Over, setting_task}
 use Rattle.run_build.proofs.OverStore.{no_test_since}
 use Rattle.vunit_top.proofs.Tops.{over_slots, known_task, over_if_plain}
@@ -33,7 +34,7 @@ returns-then-setting-gt0-clause-acts g c = λ scan is t words.
 pub returns-clause-acts : goal.returns-clause-acts
 returns-clause-acts g c = λ scan is t words.
     acts_by _ _ scan _ (setting_task c.args.setting) (Ok c.task_of-task.result) (project_reading scan (g.T.Tree.file c.args.tree.now) (g.T.Tree.listed c.args.tree.now)) (known_task c.args.setting c.if-setting.false c.task_of-task.result c.if-setting-gt0.false c.task_of-task.ensures.task)
-    (c.run_sources.ensures.acts scan is t words)
+    (c.run_sources.ensures.acts scan is (subst (AreSourcesTold g.T.Tree.tells) (known_task c.args.setting c.if-setting.false c.task_of-task.result c.if-setting-gt0.false c.task_of-task.ensures.task) t) words)
 
 pub returns-then-setting-clause-no_tests : goal.returns-then-setting-clause-no_tests
 returns-then-setting-clause-no_tests g c = λ runs none. no_test_since (g.P.Procs.journal c.args.procs.now)

@@ -1,0 +1,44 @@
+-- Which objects a run may touch: by what words and sources say is to be done, and by words alone.
+use Rattle.std.specs.Prelude.{Bool, true, false, Result, Ok, Err}
+use Rattle.run_spec.specs.JournalParts.{is_given}
+use Rattle.vunit_top.specs.declared.words.Task.{Task}
+use Rattle.vunit_top.specs.Acts.{Object, Input, Tree, Disk, Children, Out, Reports}
+use Rattle.vunit_top.specs.Reading.{Reading, Bad, Child, Compiler, Simulator, Stops, Over, Lists, ListsTests, Exports, Builds, Runs, Generates, is_build, may_write, generates}
+
+-- what is known of an object, by which one it is
+abbrev pub row : (input files disk children out reports : Bool) → Object → Bool
+row input files disk children out reports Input = input
+row input files disk children out reports Tree = files
+row input files disk children out reports Disk = disk
+row input files disk children out reports Children = children
+row input files disk children out reports Out = out
+row input files disk children out reports Reports = reports
+
+-- Whether a run may touch an object, by its reading. The columns are the input, the tree, the disk, the children, the output
+-- and the reports. A limit is passed by words, or by sources.
+abbrev pub touches : Reading → Object → Bool
+touches Bad object = row false false false false true false object
+touches (Child Compiler) object = row true false false false true false object
+touches (Child Simulator) object = row true false false false true true object
+touches (Stops reason) object = row false true false false true false object
+touches (Over limit number) object = row false true false false true false object
+touches (Lists graph) object = row false true false false true false object
+touches (ListsTests tests) object = row false true false false true false object
+touches (Exports path text) object = row false true false false false true object
+touches (Builds order warnings) object = row false true true true true false object
+touches (Runs asked) object = row false true true true true (is_given asked.report) object
+touches (Generates options) object = row false false false true true false object
+
+-- the program is a child, and which one
+abbrev pub is_child : Reading → Bool
+is_child (Child tool) = true
+is_child reading = false
+
+abbrev pub is_simulator : Reading → Bool
+is_simulator (Child Simulator) = true
+is_simulator reading = false
+
+-- Whether a run may touch an object, by words alone: by what is done with the sources, or by what words say alone.
+abbrev pub may_touch : Result Task Reading → Object → Bool
+may_touch (Ok task) object = row false true (is_build task) (is_build task) true (may_write task) object
+may_touch (Err reading) object = row (is_child reading) false false (generates (Err reading)) true (is_simulator reading) object
