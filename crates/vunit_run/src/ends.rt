@@ -1,23 +1,90 @@
 //! The lines that standard error gets once a run has ended.
 
-use crate::causes::{Children, Watched};
+use crate::causes::{Children, Outside, Watched, fault_cause};
+use crate::locations::refusal_location;
 use crate::modes::{Mode, is_child};
 use base::{NoMemory, ProjectFault, TextList};
 use base_outcomes::{Outcome, OutsideObject, Refusal};
 use system_children::Counts;
-use system_files::lock_holder;
+use system_files::{Messages, lock_holder, shorten_line};
 use vunit_arguments::{Setting, read_arguments};
 use vunit_hints::{
     ProjectText, project_text, push_child_said, push_counts, push_failed, push_line,
     push_linked_folders, push_no_test, push_own_compiler, push_own_simulator, push_pattern_cause,
     push_source_locations, push_unmatched, push_unread, push_words, read_again,
 };
+use vunit_top::{Ended, end_of};
 
 /// The file of the store that a run locks.
 const LOCKED_FILE: &str = "vunit_out/store_a";
 
+/// How a run ended, the lines that say more of it on standard error, and what these are written to.
+#[derive(Drop)]
+pub struct Ran {
+    pub ended: Ended,
+    pub lines: Vec<Vec<u8>>,
+    pub messages: Messages,
+}
+
+impl Ran {
+    /// A run for which there was no memory.
+    pub fn without_memory(rt: &HostRuntime, messages: Messages) -> Ran {
+        Ran {
+            ended: end_of(Outcome::NoMemory),
+            lines: Vec::new(rt.alloc()),
+            messages,
+        }
+    }
+}
+
+/// Writes the line of a fault, if the run ended with one, and the lines that say more, and lets go of standard error.
+pub fn say_end(ran: Ran) {
+    let Ran {
+        ended,
+        lines,
+        mut messages,
+    } = ran;
+    match &ended.outcome {
+        Outcome::OutsideFault(which) => messages.say_at_end(fault_line(*which)),
+        Outcome::NoMemory => messages.say_at_end(b"vunit_run: out of memory\n"),
+        _ => {}
+    }
+    for mut line in lines {
+        let _ = shorten_line(&mut line);
+        messages.say_at_end(line.as_slice());
+    }
+    messages.finish();
+}
+
+fn fault_line(which: OutsideObject) -> &'static [u8] {
+    match which {
+        OutsideObject::Tree => b"vunit_run: fault of tree\n",
+        OutsideObject::Disk => b"vunit_run: fault of disk\n",
+        OutsideObject::Start => b"vunit_run: fault of start\n",
+        OutsideObject::Child => b"vunit_run: fault of child\n",
+        OutsideObject::Out => b"vunit_run: fault of out\n",
+        OutsideObject::Report => b"vunit_run: fault of report\n",
+        OutsideObject::Input => b"vunit_run: fault of input\n",
+    }
+}
+
+/// The lines after a run: the cause of a fault or the location of a refusal, and what else is known of its end.
+pub fn lines_after(
+    rt: &HostRuntime,
+    words: &TextList,
+    outcome: &Outcome,
+    outside: &Outside,
+) -> Vec<Vec<u8>> {
+    let cause = match outcome {
+        Outcome::OutsideFault(which) => fault_cause(rt.alloc(), *which, outside),
+        Outcome::Refused(refusal) => refusal_location(rt, refusal),
+        _ => None,
+    };
+    end_lines(rt, words, outcome, cause, outside.children, outside.disk)
+}
+
 /// The lines, after that of a fault. Where there is no memory for one, it and those after it are left out, but for the last.
-pub fn end_lines(
+fn end_lines(
     rt: &HostRuntime,
     words: &TextList,
     outcome: &Outcome,

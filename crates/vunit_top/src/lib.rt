@@ -4,9 +4,11 @@
 mod children;
 mod ends;
 mod generating;
+mod program_end;
 mod testing_run;
 mod top;
 mod words;
 
+pub use program_end::{Ended, end_of, run_ended};
 pub use top::run_vunit;
 pub use words::{RunOptions, Task};

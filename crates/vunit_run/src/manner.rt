@@ -1,0 +1,30 @@
+//! How standard error is told of a run while it goes on.
+
+use base::TextList;
+use std::env;
+use std::io::IsTerminal;
+use system_children::Manner;
+use vunit_arguments::read_arguments;
+
+/// How standard error is told: whether it is a terminal, and whether the words want it quiet.
+pub fn manner(rt: &HostRuntime, words: &TextList) -> Manner {
+    let is_quiet = match read_arguments(rt.alloc(), words) {
+        Ok(setting) => setting.quiet,
+        Err(_) => false,
+    };
+    Manner {
+        is_screen: is_screen(rt),
+        is_quiet,
+    }
+}
+
+/// Whether standard error is a terminal that can write a line over.
+fn is_screen(rt: &HostRuntime) -> bool {
+    if !rt.stderr().is_terminal() {
+        return false;
+    }
+    match env::var(rt, "TERM") {
+        Ok(kind) => kind.as_str() != "dumb" && !kind.as_str().is_empty(),
+        Err(_) => false,
+    }
+}
