@@ -12,17 +12,13 @@ use Rattle.child_tools.specs.Benches.{simulation}
 use Rattle.outside.specs.declared.streams.TakeEnd.TheVariants.{Got, TooLong}
 use Rattle.outside.specs.Streams.{take_end}
 use Rattle.report.specs.Texts.{bad_request}
-use Rattle.project_reading.specs.Reading.{SourceReading}
 use Rattle.vunit_arguments.specs.declared.setting.Setting.{Setting}
 use Rattle.vunit_arguments.specs.declared.setting.ArgumentsFault.TheVariants as words
 use Rattle.vunit_arguments.specs.Arguments.{setting_of, ReadsArguments}
 use Rattle.vunit_top.specs.declared.words.Task.{Task}
 use Rattle.generated_runs.specs.declared.options.GenerateOptions.{GenerateOptions}
-use Rattle.run_spec.specs.Histories.{Order}
-use Rattle.std.proofs.lemmas.Option.{none-some}
-use Rattle.project_reading.specs.declared.query.Query.{Query}
-use Rattle.vunit_top.specs.Reading.{Reading, Testing, Bad, Child, Compiler, Simulator, Over, Builds, Runs, Exports, Generates, begins_as_compiler, begins_as_simulator, task_of, generate_task, generate_options_of, generates, may_test, setting_task, maybe_task, words_task, full_reading}
-use Rattle.vunit_top.specs.Said.{Said, order_of, plain_said, child_said, child_results, exit_said, left_results, input_bytes}
+use Rattle.vunit_top.specs.Reading.{Reading, Bad, Child, Compiler, Simulator, Over, Generates, begins_as_compiler, begins_as_simulator, task_of, generate_task, generate_options_of, generates, may_test, setting_task, maybe_task, words_task}
+use Rattle.vunit_top.specs.Said.{Said, child_said, child_results, exit_said, left_results, input_bytes}
 
 got_is_short : (input : List ℕ) → TooLong ≡ Got input → ⊥
 got_is_short input e = cc
@@ -78,10 +74,6 @@ long_is_said answer input long none = not_empty (sym (ap (λ (said : Said). said
 pub some_said : (x y : Said) → ◌≡◌ {A = Option Said} (Some x) (Some y) → x ≡ y
 some_said x y e = cc
 
--- words that alone say what is done give nothing to build
-pub nothing_by : (j : Result Task Reading) (r : Reading) (s : Query → SourceReading) → j ≡ Err r → order_of r ≡ None → order_of (full_reading j s) ≡ None
-nothing_by j r s is none = ap (λ (i : Result Task Reading). order_of (full_reading i s)) is ∙ none
-
 module _ (setting : Setting) where
   pub over_slots : SLOT_LIMIT < setting.num_threads → setting_task setting ≡ Err (Over limits.Slots SLOT_LIMIT)
   over_slots over = rw (lt-ltb SLOT_LIMIT setting.num_threads over) refl
@@ -116,44 +108,9 @@ module _ (setting : Setting) where
           | inr over ↦ named some ∙ cond-false (ltb setting.generate FILE_LIMIT) (Err (Generates (generate_options_of setting))) (Err (Over limits.Files FILE_LIMIT)) over
         ]
 
--- ## Words that generate a project
-
-module _ (j : Result Task Reading) (options : GenerateOptions) (is : j ≡ Err (Generates options)) where
-  pub not_plain : generates j ≡ false → ⊥
-  not_plain plain = false≢true (sym plain ∙ ap generates is)
-
-  pub not_untested : may_test j ≡ false → ⊥
-  not_untested none = false≢true (sym none ∙ ap may_test is)
-
-  pub reads_generated : (s : Query → SourceReading) → full_reading j s ≡ Generates options
-  reads_generated s = ap (λ (i : Result Task Reading). full_reading i s) is
-
-  pub no_text : (r : Reading) → j ≡ Err r → (what : Said) → plain_said r ≡ Some what → ⊥
-  no_text r other what said = none-some what (sym (ap plain_said (same_reading (sym is ∙ other))) ∙ said) where
-    same_reading : {a b : Reading} → ◌≡◌ {A = Result Task Reading} (Err a) (Err b) → b ≡ a
-    same_reading e = cc
-
-  pub no_plain_text : (s : Query → SourceReading) (what : Said) → plain_said (full_reading j s) ≡ Some what → ⊥
-  no_plain_text s what said = none-some what (sym (ap plain_said (reads_generated s)) ∙ said)
-
-  pub no_task : (k : Task) → j ≡ Ok k → ⊥
-  no_task k other = let both : Err (Generates options) ≡ Ok k = sym is ∙ other in let nothing : ⊥ = cc in nothing
-
-  pub no_build : (s : Query → SourceReading) (order : Order) (warnings : List ℕ) → full_reading j s ≡ Builds order warnings → ⊥
-  no_build s order warnings other = let both : Generates options ≡ Builds order warnings = sym (reads_generated s) ∙ other in let nothing : ⊥ = cc in nothing
-
-  pub no_run : (s : Query → SourceReading) (asked : Testing) → full_reading j s ≡ Runs asked → ⊥
-  no_run s asked other = let both : Generates options ≡ Runs asked = sym (reads_generated s) ∙ other in let nothing : ⊥ = cc in nothing
-
-  pub same_options : (other : GenerateOptions) → j ≡ Err (Generates other) → options ≡ other
-  same_options other asked = let both : Err (Generates options) ≡ Err (Generates other) = sym is ∙ asked in cc
-
-  pub no_export : (s : Query → SourceReading) (path text : List ℕ) → full_reading j s ≡ Exports path text → ⊥
-  no_export s path text other = let both : Generates options ≡ Exports path text = sym (reads_generated s) ∙ other in let nothing : ⊥ = cc in nothing
-
--- words that don't say so
-pub no_generated : (j : Result Task Reading) (options : GenerateOptions) → generates j ≡ false → j ≡ Err (Generates options) → ⊥
-no_generated j options plain is = not_plain j options is plain
+-- words that generate a project may start a test
+pub not_untested : (j : Result Task Reading) (options : GenerateOptions) → j ≡ Err (Generates options) → may_test j ≡ false → ⊥
+not_untested j options is none = false≢true (sym none ∙ ap may_test is)
 
 module _ (all : List (List ℕ)) where
   pub child_task : begins_as_compiler all ≡ true → words_task all ≡ Err (Child Compiler)
