@@ -6,8 +6,8 @@ use crate::modes::{Mode, is_child};
 use base::{NoMemory, ProjectFault, TextList};
 use base_outcomes::{Outcome, OutsideObject, Refusal};
 use system_children::Counts;
-use system_files::{Messages, lock_holder, shorten_line};
-use vunit_arguments::{Setting, read_arguments};
+use system_files::lock_holder;
+use vunit_arguments::Setting;
 use vunit_hints::{
     ProjectText, project_text, push_child_said, push_counts, push_failed, push_line,
     push_linked_folders, push_no_test, push_own_compiler, push_own_simulator, push_pattern_cause,
@@ -87,6 +87,7 @@ pub fn lines_after(
 fn end_lines(
     rt: &HostRuntime,
     words: &TextList,
+    setting: &Option<Setting>,
     outcome: &Outcome,
     cause: Option<Vec<u8>>,
     children: &Children,
@@ -96,8 +97,8 @@ fn end_lines(
     if let Some(line) = cause {
         let _ = lines.push(line);
     }
-    let _ = push_all(rt, &mut lines, words, outcome, children);
-    let _ = push_records(rt, &mut lines, words, disk);
+    let _ = push_all(rt, &mut lines, words, setting, outcome, children);
+    let _ = push_records(rt, &mut lines, setting, disk);
     lines
 }
 
@@ -105,14 +106,14 @@ fn end_lines(
 fn push_records(
     rt: &HostRuntime,
     lines: &mut Vec<Vec<u8>>,
-    words: &TextList,
+    setting: &Option<Setting>,
     disk: &Watched,
 ) -> Result<(), NoMemory> {
     let Some(unread) = disk.unread() else {
         return Ok(());
     };
-    match read_arguments(rt.alloc(), words) {
-        Ok(setting) if setting.clean => Ok(()),
+    match setting {
+        Some(setting) if setting.clean => Ok(()),
         _ => push_unread(rt.alloc(), lines, &unread),
     }
 }
@@ -121,32 +122,33 @@ fn push_all(
     rt: &HostRuntime,
     lines: &mut Vec<Vec<u8>>,
     words: &TextList,
+    setting: &Option<Setting>,
     outcome: &Outcome,
     children: &Children,
 ) -> Result<(), NoMemory> {
     if is_child(words) {
         return Ok(());
     }
-    let Ok(setting) = read_arguments(rt.alloc(), words) else {
+    let Some(setting) = setting else {
         return match outcome {
             Outcome::BadWords => push_words(rt.alloc(), lines, words),
             _ => Ok(()),
         };
     };
-    let mode = Mode::of(&setting);
+    let mode = Mode::of(setting);
     match outcome {
-        Outcome::OutsideFault(which) => push_fault(rt, lines, *which, &setting, mode, children),
+        Outcome::OutsideFault(which) => push_fault(rt, lines, *which, setting, mode, children),
         Outcome::Done | Outcome::TestsFailed => {
             let counts = children.teller.counts();
             push_failed(rt.alloc(), lines, children.teller.failed_tests())?;
-            push_warnings(rt, lines, &setting, mode, &counts)?;
+            push_warnings(rt, lines, setting, mode, &counts)?;
             if mode.is_run && counts.tests_started == 0 {
                 push_no_test(rt.alloc(), lines)?;
             }
             Ok(())
         }
         Outcome::Refused(Refusal::Compiler { .. }) => {
-            push_warnings(rt, lines, &setting, mode, &children.teller.counts())
+            push_warnings(rt, lines, setting, mode, &children.teller.counts())
         }
         Outcome::Refused(refusal) => push_refusal(rt, lines, refusal),
         _ => Ok(()),
