@@ -19,29 +19,35 @@ use std::{fs, io};
 /// The folder of the program's own output, which isn't listed.
 pub const OUTPUT_FOLDER: &str = "vunit_out";
 
-/// The folders that are still to be read, by their paths, and the files that were found.
+/// The folders that are still to be read, by their paths, the files that were found, and whether a link was that leads to no
+/// file.
 #[derive(Drop)]
 struct Walk {
     folders: Vec<String>,
     found: Vec<String>,
+    has_link: bool,
 }
 
 /// The listing of the present folder, if it has at most `limit` names. Its form is tested, and a listing that hasn't
-/// this form fails. Where it fails at a folder or at an entry of one, the path of this is left. The buffer is what one
-/// read of a folder takes at most.
+/// this form fails. Where it fails at a folder or at an entry of one, the path of this is left. So is whether it found a link
+/// that leads to no file, once it has walked all folders. The buffer is what one read of a folder takes at most.
 pub fn list_names<R: Files>(
     files: &R,
     buffer: &mut [u8],
     alloc: Global,
     limit: u64,
     failed_at: &mut Option<String>,
+    has_link: &mut Option<bool>,
 ) -> Result<NamesEnd, IoFault>
     ensures { IfOk result (IsListing limit) }
 {
-    let mut found = find_files(files, buffer, alloc, limit as usize, failed_at)?;
+    *has_link = None;
+    let walk = find_files(files, buffer, alloc, limit as usize, failed_at)?;
+    let mut found = walk.found;
     if found.len() as u64 > limit {
         return Ok(NamesEnd::TooMany);
     }
+    *has_link = Some(walk.has_link);
     found.sort_unstable();
     let names = texts(alloc, found)?;
     if names.len() as u64 <= limit && is_listing(names.as_slice()) {
@@ -68,17 +74,18 @@ fn find_files<R: Files>(
     alloc: Global,
     limit: usize,
     failed_at: &mut Option<String>,
-) -> Result<Vec<String>, IoFault> {
+) -> Result<Walk, IoFault> {
     let mut walk = Walk {
         folders: vec![in alloc; String::new(alloc)]?,
         found: Vec::new(alloc),
+        has_link: false,
     };
     for _ in 0..u64::MAX {
         if walk.found.len() > limit {
-            return Ok(walk.found);
+            return Ok(walk);
         }
         let Some(folder) = walk.folders.pop() else {
-            return Ok(walk.found);
+            return Ok(walk);
         };
         *failed_at = None;
         if let Err(fault) = read_folder(
@@ -169,6 +176,7 @@ fn take_entry<R: Files>(
         Ok(Kind::File) => walk.found.push(path)?,
         Ok(Kind::Folder) if path.as_str() != OUTPUT_FOLDER => walk.folders.push(path)?,
         Ok(Kind::Folder | Kind::Other) => {}
+        Ok(Kind::Link) => walk.has_link = true,
         Err(fault) => {
             *failed_at = Some(path);
             return Err(fault);
@@ -201,6 +209,7 @@ fn text_of_name(alloc: Global, name: &[u8]) -> Result<String, IoFault> {
 enum Kind {
     File,
     Folder,
+    Link,
     Other,
 }
 
@@ -221,7 +230,7 @@ fn kind_of<R: Files>(files: &R, path: &str) -> Result<Kind, IoFault> {
 fn kind_of_target(target: io::Result<fs::Metadata>) -> Result<Kind, IoFault> {
     match target {
         Ok(data) if data.is_file() => Ok(Kind::File),
-        Ok(_) => Ok(Kind::Other),
+        Ok(_) => Ok(Kind::Link),
         Err(error) if error.kind() == ErrorKind::OutOfMemory => Err(IoFault::NoMemory),
         Err(_) => Ok(Kind::File),
     }

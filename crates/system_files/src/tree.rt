@@ -23,6 +23,8 @@ pub struct FileTree<R> {
     // why a call failed, and in a listing the path of the folder or the entry where that was
     cause: Option<Cause>,
     failed_at: Option<String>,
+    // whether the last listing found a link that leads to no file, if it came to its end
+    has_link: Option<bool>,
     buffer: Vec<u8>,
     ghost has_room: { 0 < vec_len buffer },
 }
@@ -39,6 +41,7 @@ impl<R: Files> FileTree<R> {
             failures: 0,
             cause: None,
             failed_at: None,
+            has_link: None,
             buffer: vec![in alloc; 0; CHUNK]?,
         })
     }
@@ -52,6 +55,11 @@ impl<R: Files> FileTree<R> {
             (None, Some(path)) => Some((path.bytes(), cause)),
             (None, None) => Some((b".", cause)),
         }
+    }
+
+    /// Whether a link to a folder may lie below the present folder, as far as the last listing knows.
+    pub fn may_have_linked_folder(&self) -> bool {
+        self.has_link != Some(false)
     }
 
     /// Puts a path at the end of what was asked for.
@@ -87,7 +95,8 @@ impl<R: Files + AllocGlobal + Clone + Drop> Tree for FileTree<R> {
 
     fn names(&mut self, alloc: Global, limit: u64) -> Result<NamesEnd, TreeFault> {
         let buffer = self.buffer.as_mut_slice();
-        match list_names(&self.files, buffer, alloc, limit, &mut self.failed_at) {
+        let (failed_at, has_link) = (&mut self.failed_at, &mut self.has_link);
+        match list_names(&self.files, buffer, alloc, limit, failed_at, has_link) {
             Ok(end) => Ok(end),
             Err(IoFault::NoMemory) => Err(TreeFault::NoMemory),
             Err(IoFault::Failed(cause)) => {

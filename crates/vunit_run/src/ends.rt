@@ -1,7 +1,6 @@
 //! The lines that standard error gets once a run has ended.
 
-use crate::causes::{Children, Outside, Watched, fault_cause};
-use crate::locations::refusal_location;
+use crate::causes::{Children, Outside, Watched};
 use crate::modes::{Mode, is_child};
 use base::{NoMemory, ProjectFault, TextList};
 use base_outcomes::{Outcome, OutsideObject, Refusal};
@@ -90,15 +89,14 @@ fn end_lines(
     setting: &Option<Setting>,
     outcome: &Outcome,
     cause: Option<Vec<u8>>,
-    children: &Children,
-    disk: &Watched,
+    outside: &Outside,
 ) -> Vec<Vec<u8>> {
     let mut lines = Vec::new(rt.alloc());
     if let Some(line) = cause {
         let _ = lines.push(line);
     }
-    let _ = push_all(rt, &mut lines, words, setting, outcome, children);
-    let _ = push_records(rt, &mut lines, setting, disk);
+    let _ = push_all(rt, &mut lines, words, setting, outcome, outside);
+    let _ = push_records(rt, &mut lines, setting, outside.disk);
     lines
 }
 
@@ -124,7 +122,7 @@ fn push_all(
     words: &TextList,
     setting: &Option<Setting>,
     outcome: &Outcome,
-    children: &Children,
+    outside: &Outside,
 ) -> Result<(), NoMemory> {
     if is_child(words) {
         return Ok(());
@@ -137,18 +135,25 @@ fn push_all(
     };
     let mode = Mode::of(setting);
     match outcome {
-        Outcome::OutsideFault(which) => push_fault(rt, lines, *which, setting, mode, children),
+        Outcome::OutsideFault(which) => push_fault(
+            rt,
+            lines,
+            *which,
+            setting,
+            mode,
+            outside.children,
+        ),
         Outcome::Done | Outcome::TestsFailed => {
-            let counts = children.teller.counts();
-            push_failed(rt.alloc(), lines, children.teller.failed_tests())?;
-            push_warnings(rt, lines, setting, mode, &counts)?;
+            let counts = outside.children.teller.counts();
+            push_failed(rt.alloc(), lines, outside.children.teller.failed_tests())?;
+            push_warnings(rt, lines, setting, mode, outside)?;
             if mode.is_run && counts.tests_started == 0 {
                 push_no_test(rt.alloc(), lines)?;
             }
             Ok(())
         }
         Outcome::Refused(Refusal::Compiler { .. }) => {
-            push_warnings(rt, lines, setting, mode, &children.teller.counts())
+            push_warnings(rt, lines, setting, mode, outside)
         }
         Outcome::Refused(refusal) => push_refusal(rt, lines, refusal),
         _ => Ok(()),
@@ -218,20 +223,21 @@ fn push_warnings(
     lines: &mut Vec<Vec<u8>>,
     setting: &Setting,
     mode: Mode,
-    counts: &Counts,
+    outside: &Outside,
 ) -> Result<(), NoMemory> {
     if mode.is_generated {
         return Ok(());
     }
+    let counts = outside.children.teller.counts();
     let project = project_text(rt);
     if let Some(project) = &project {
         project.push_unknown(rt.alloc(), lines)?;
-        // (a run with nothing to do isn't to look at each name twice)
-        if counts.ended > 0 {
+        // (a run with nothing to do isn't to look at each name twice, nor one that has seen that there is no link)
+        if counts.ended > 0 && outside.tree.may_have_linked_folder() {
             push_linked_folders(rt, lines, project)?;
         }
     }
-    push_tools(rt, lines, &project, mode, counts)?;
+    push_tools(rt, lines, &project, mode, &counts)?;
     push_patterns(rt, lines, setting, mode)
 }
 

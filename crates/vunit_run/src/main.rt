@@ -145,7 +145,7 @@ fn run_over(
         Outcome::Refused(refusal) => refusal_location(&rt, refusal),
         _ => None,
     };
-    let lines = end_lines(&rt, words, &setting, &outcome, cause, &children, disk);
+    let lines = end_lines(&rt, words, &setting, &outcome, cause, &outside);
     Ran {
         ended,
         lines,
