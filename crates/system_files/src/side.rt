@@ -11,6 +11,7 @@ pub const WINDOW: usize = 32_768;
 /// An open file of a store, and some of its bytes.
 #[derive(Drop)]
 pub struct SideBytes {
+    alloc: Global,
     file: File,
     len: u64,
     start: u64,
@@ -23,6 +24,7 @@ impl SideBytes {
         let mut file = OpenOptions::new().read(true).open(rt, path).ok()?;
         let len = file.seek(SeekFrom::End(0)).ok()?;
         Some(SideBytes {
+            alloc: rt.alloc(),
             file,
             len,
             start: 0,
@@ -52,7 +54,11 @@ impl SideBytes {
     fn refill(&mut self, at: u64) -> Option<()> {
         let left = self.len.saturating_sub(at).min(WINDOW as u64);
         let count = usize::try_from(left).ok()?;
-        self.held.resize(count, 0).ok()?;
+        // (to make zeros at once is much faster than to add them)
+        if self.held.len() < count {
+            self.held = vec![in self.alloc; 0; count].ok()?;
+        }
+        self.held.truncate(count);
         self.start = at;
         if self
             .file
