@@ -1,11 +1,12 @@
 //! The lines that standard error gets once a run has ended.
 
-use crate::causes::{Children, Outside, Watched};
+use crate::causes::{Children, Outside, Watched, fault_cause};
+use crate::locations::refusal_location;
 use crate::modes::{Mode, is_child};
 use base::{NoMemory, ProjectFault, TextList};
 use base_outcomes::{Outcome, OutsideObject, Refusal};
 use system_children::Counts;
-use system_files::lock_holder;
+use system_files::{Messages, lock_holder, shorten_line};
 use vunit_arguments::Setting;
 use vunit_hints::{
     ProjectText, project_text, push_child_said, push_counts, push_failed, push_line,
@@ -36,8 +37,9 @@ impl Ran {
     }
 }
 
-/// Writes the line of a fault, if the run ended with one, and the lines that say more, and lets go of standard error.
-pub fn say_end(ran: Ran) {
+/// Writes the line of a fault, if the run ended with one, and the lines that say more, lets go of standard error, and gives
+/// the run's exit status.
+pub fn say_end(ran: Ran) -> u8 {
     let Ran {
         ended,
         lines,
@@ -53,6 +55,7 @@ pub fn say_end(ran: Ran) {
         messages.say_at_end(line.as_slice());
     }
     messages.finish();
+    ended.status
 }
 
 fn fault_line(which: OutsideObject) -> &'static [u8] {
@@ -71,6 +74,7 @@ fn fault_line(which: OutsideObject) -> &'static [u8] {
 pub fn lines_after(
     rt: &HostRuntime,
     words: &TextList,
+    setting: &Option<Setting>,
     outcome: &Outcome,
     outside: &Outside,
 ) -> Vec<Vec<u8>> {
@@ -79,7 +83,7 @@ pub fn lines_after(
         Outcome::Refused(refusal) => refusal_location(rt, refusal),
         _ => None,
     };
-    end_lines(rt, words, outcome, cause, outside.children, outside.disk)
+    end_lines(rt, words, setting, outcome, cause, outside)
 }
 
 /// The lines, after that of a fault. Where there is no memory for one, it and those after it are left out, but for the last.

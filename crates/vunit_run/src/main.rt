@@ -20,42 +20,11 @@ use system_children::{ChildProcs, Teller, ToldProcs};
 use system_files::{
     FileDisk, FileReports, FileTree, Messages, OUTPUT_FOLDER, StdSink, StdSource, WatchedDisk,
 };
-use vunit_arguments::{Setting, read_arguments};
-use vunit_top::run_vunit;
-
-/// The store, which no report may take the location of.
-static STORE: ProtectedFiles = ProtectedFiles {
-    folder: OUTPUT_FOLDER,
-    names: STORE_NAMES,
-};
-
-/// The paths of its files.
-const STORE_PATHS: [&str; 2] = ["vunit_out/store_a", "vunit_out/store_b"];
-
-/// How a run ended, the lines that say more of it on standard error, and what these are written to.
-#[derive(Drop)]
-struct Ran {
-    outcome: Outcome,
-    lines: Vec<Vec<u8>>,
-    messages: Messages,
-}
-
-impl Ran {
-    /// A run for which there was no memory.
-    fn without_memory(rt: &HostRuntime, messages: Messages) -> Ran {
-        Ran {
-            outcome: Outcome::NoMemory,
-            lines: Vec::new(rt.alloc()),
-            messages,
-        }
-    }
-}
+use vunit_arguments::read_arguments;
+use vunit_top::run_ended;
 
 fn main(rt: HostRuntime) -> ExitCode {
-    let ran = run(rt);
-    let status = ran.ended.status;
-    say_end(ran);
-    ExitCode::from(status)
+    ExitCode::from(say_end(run(rt)))
 }
 
 /// Runs the words of the command line in the present folder.
@@ -140,38 +109,10 @@ fn run_over(
         out: &out,
         reports: &reports,
     };
-    let cause = match &outcome {
-        Outcome::OutsideFault(which) => fault_cause(rt.alloc(), *which, &outside),
-        Outcome::Refused(refusal) => refusal_location(&rt, refusal),
-        _ => None,
-    };
-    let lines = end_lines(&rt, words, &setting, &outcome, cause, &outside);
+    let lines = lines_after(&rt, words, &setting, &ended.outcome, &outside);
     Ran {
         ended,
         lines,
         messages: children.teller.into_messages(),
-    }
-}
-
-/// How standard error is told: whether it is a terminal, and whether the words want it quiet.
-fn manner(rt: &HostRuntime, setting: &Option<Setting>) -> Manner {
-    let is_quiet = match setting {
-        Some(setting) => setting.quiet,
-        None => false,
-    };
-    Manner {
-        is_screen: is_screen(rt),
-        is_quiet,
-    }
-}
-
-/// Whether standard error is a terminal that can write a line over.
-fn is_screen(rt: &HostRuntime) -> bool {
-    if !rt.stderr().is_terminal() {
-        return false;
-    }
-    match env::var(rt, "TERM") {
-        Ok(kind) => kind.as_str() != "dumb" && !kind.as_str().is_empty(),
-        Err(_) => false,
     }
 }

@@ -1,16 +1,15 @@
 //! How standard error is told of a run while it goes on.
 
-use base::TextList;
 use std::env;
 use std::io::IsTerminal;
 use system_children::Manner;
-use vunit_arguments::read_arguments;
+use vunit_arguments::Setting;
 
 /// How standard error is told: whether it is a terminal, and whether the words want it quiet.
-pub fn manner(rt: &HostRuntime, words: &TextList) -> Manner {
-    let is_quiet = match read_arguments(rt.alloc(), words) {
-        Ok(setting) => setting.quiet,
-        Err(_) => false,
+pub fn manner(rt: &HostRuntime, setting: &Option<Setting>) -> Manner {
+    let is_quiet = match setting {
+        Some(setting) => setting.quiet,
+        None => false,
     };
     Manner {
         is_screen: is_screen(rt),
