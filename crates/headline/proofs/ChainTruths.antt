@@ -1,5 +1,5 @@
 -- What follows of one run, and then of the next.
-use Rattle.std.proofs.Common.{◌≡◌, ℕ, ◌<◌, Bool, true, false, eqb, List, [], ◌∷◌, ◌++◌, length, map, get_or, Option, Some, None, refl, sym, ap, subst, ◌∙◌, arith, inl, inr}
+use Rattle.std.proofs.Common.{◌≡◌, ℕ, ◌<◌, Bool, true, false, List, [], ◌∷◌, ◌++◌, length, map, get_or, Option, Some, None, refl, sym, ap, subst, ◌∙◌, arith, inl, inr}
 use Rattle.std.specs.Prelude.{◌↔◌, All, is_some, slice_get, unwrap_or, Contains}
 use Rattle.std.specs.List.{list_any}
 use Rattle.std.specs.Option.{option_map_or}
@@ -20,8 +20,7 @@ use Rattle.outside.specs.Records.{Record, IsRecorded, asked_now, built_of_record
 use Rattle.outside.specs.Disks.{DiskState, reads_of, settled_disk}
 use Rattle.outside.specs.Commits.{last_state}
 use Rattle.run_spec.specs.ChildJournal.{Work, End, progress_of, exit_at, built_file, built_at, artefact_so_far, artefact_after}
-use Rattle.run_spec.specs.Faithful.{IsFaithfulDisk}
-use Rattle.run_spec.specs.Histories.{Sources, Order, ProgramRun, HistoryStep, Ran, Stopped, empty_image, IsReadable, IsMoment, IsLeft, RunStep, IsHistory, work_over, latest_over}
+use Rattle.run_spec.specs.Histories.{Sources, Order, ProgramRun, empty_image, IsReadable, IsMoment, IsLeft, RunStep, work_over, latest_over}
 use Rattle.run_spec.specs.JournalParts.{compile_part, test_part}
 use Rattle.run_spec.specs.Recorded.{current_by_request}
 use Rattle.run_spec.specs.Settled.{request_unless}
@@ -31,22 +30,19 @@ use Rattle.run_spec.proofs.Artefacts.{deps_before}
 use Rattle.run_spec.proofs.RecordedArtefacts.{current_of_record}
 use Rattle.run_laws.proofs.CleanRanks.{filter_map-cons}
 use Rattle.run_laws.proofs.JournalStarted.{nothing_due}
-use Rattle.run_laws.specs.Rights.{AllRight}
-use Rattle.run_laws.specs.Spares.{IsAcknowledged, SparesFile, AllSpare}
-use Rattle.run_laws.proofs.RightRuns.{all_right, all_right_from_empty}
+use Rattle.run_laws.specs.Spares.{IsAcknowledged, SparesFile}
 use Rattle.run_laws.proofs.SparedRuns.{all_there}
-use Rattle.run_laws.proofs.StoppedRuns.{stopped_spares}
 use Rattle.vhdl_spec.specs.Scans.{Finding}
-use Rattle.run_tests.specs.Histories.{TestedStep, HasTested, TestsStep, IsTestedHistory}
-use Rattle.run_tests.specs.Histories as tested
-use Rattle.run_tests.specs.Rights.{AllTestedRight}
-use Rattle.run_tests.proofs.TestedRights.{all_tested_right_from_empty}
+use Rattle.run_tests.specs.Histories.{HistoryStep, Ran, Stopped, HasTested, TestsStep, IsHistory}
+use Rattle.run_tests.specs.Rights.{AllRight}
+use Rattle.run_tests.specs.Spares.{AllSpare}
+use Rattle.run_tests.proofs.HistorySteps.{all_right_from_empty, stopped_spares}
 use Rattle.vunit_top.specs.Store.{records_in_image}
 use Rattle.vunit_top.specs.Reading.{Reading, Testing, Bad, Child, Stops, Over, Lists, ListsTests, Exports, Builds, Runs, reading, Generates}
-use Rattle.vunit_top.specs.Runs.{world_of, tested_world_of, RunsAs}
+use Rattle.vunit_top.specs.Runs.{world_of, RunsAs}
 use Rattle.vunit_top.specs.Said.{HasBuilt, no_order, order_of, order_in, plan_in}
 use Rattle.vunit_top.proofs.RunTruths.{built_ended, none_in_empty_image}
-use Rattle.headline.specs.Chains.{Deeds, run_by, tested_by, RanTwice, RanAfterStop}
+use Rattle.headline.specs.Chains.{Deeds, run_by, RanTwice, RanAfterStop}
 
 -- a file with an artefact isn't refused
 made_status : (keep_going : Bool) (exit : Option Exit) (artefact : Option (List ℕ)) → is_some artefact ≡ true → is_refused (status_of keep_going exit artefact) ≡ false
@@ -98,9 +94,9 @@ module _ (latest_of : FileName → Option Record) (graph : List Entry) where
       ∙ current_of_record latest_of graph at here.entry (map (latest_built latest_of graph) here.entry.deps) here.is_entry here.artefact here.is
       ∙ ap (λ (file : BuiltFile). Some file.artefact) (sym own)
 
-module _ (scan : List ℕ → Finding) (answer : Request → Exit) (run : ProgramRun) (first : DiskState) where
+module _ (scan : List ℕ → Finding) (compiler : Request → Exit) (run : ProgramRun) (first : DiskState) where
   -- where each file has a record of what would be asked for it now, a run starts nothing
-  nothing_started : (order : Option Order) → RunStep (world_of scan answer) order run first
+  nothing_started : (order : Option Order) → RunStep (world_of scan compiler) order run first
       → ((position : ℕ) → position < length (unwrap_or order no_order).graph → IsRecorded (latest_over records_in_image (unwrap_or order no_order).clean first) (unwrap_or order no_order).graph position) → run.events ≡ []
   nothing_started None step each = step.events
   nothing_started (Some order) (inl idle) each = idle.events
@@ -110,9 +106,9 @@ module _ (scan : List ℕ → Finding) (answer : Request → Exit) (run : Progra
       (all_there (work_over records_in_image order first) build.graph (kept_artefact latest_of order.graph) (all_current latest_of order.graph build.graph each)) run.events build.lawful
 
   -- a run that is done has started exactly the files that the settled build asks for
-  exact_starts : (r : Reading) (last : DiskState) → RunsAs scan answer r run first last → HasBuilt run.outcome → (position : ℕ) →
+  exact_starts : (r : Reading) (last : DiskState) → RunsAs scan compiler r run first last → HasBuilt run.outcome → (position : ℕ) →
       Contains (progress_of (work_over records_in_image (order_in r) first) run.events).taken position
-      ↔ ((request : Request) × (request_unless answer (work_over records_in_image (order_in r) first).graph (work_over records_in_image (order_in r) first).current position ≡ Some request))
+      ↔ ((request : Request) × (request_unless compiler (work_over records_in_image (order_in r) first).graph (work_over records_in_image (order_in r) first).current position ≡ Some request))
   exact_starts r last did done =
       let setting : Work = work_over records_in_image (order_in r) first in
       let count : ℕ = length (order_in r).graph in
@@ -121,33 +117,33 @@ module _ (scan : List ℕ → Finding) (answer : Request → Exit) (run : Progra
       (did.exact (built_ended run.outcome done) (inr (none_refused setting (progress_of setting run.events).ends (below count) made))).started
 
 -- what a call says of the tests of a run over a disk, by what was read
-pub record TestsOf (answer : Request → Exit) (r : Reading) (events : List Event) (disk : DiskState) : Type 0 where
+pub record TestsOf (r : Reading) (events : List Event) (disk : DiskState) : Type 0 where
   pub untested : plan_in r ≡ None → test_part events ≡ []
-  pub tested : (asked : Testing) → r ≡ Runs asked → HasTested answer asked.order asked.plan (work_over records_in_image asked.order disk) (compile_part events) (test_part events)
+  pub tested : (asked : Testing) → r ≡ Runs asked → HasTested asked.order asked.plan (work_over records_in_image asked.order disk) (compile_part events) (test_part events)
 
 -- what they did is a step of a history with tests
-tests_step : (answer : Request → Exit) (compiled tests : List Event) (first : DiskState) (r : Reading) → (plan_in r ≡ None → tests ≡ []) →
-    ((asked : Testing) → r ≡ Runs asked → HasTested answer asked.order asked.plan (work_over records_in_image asked.order first) compiled tests) → TestsStep answer records_in_image (order_of r) (plan_in r) compiled tests first
-tests_step answer compiled tests first Bad none some = none refl
-tests_step answer compiled tests first (Child tool) none some = none refl
-tests_step answer compiled tests first (Stops reason) none some = none refl
-tests_step answer compiled tests first (Over limit number) none some = none refl
-tests_step answer compiled tests first (Lists graph) none some = none refl
-tests_step answer compiled tests first (ListsTests tests_there) none some = none refl
-tests_step answer compiled tests first (Exports path text) none some = none refl
-tests_step answer compiled tests first (Builds order warnings) none some = none refl
-tests_step answer compiled tests first (Runs asked) none some = some asked refl
-tests_step answer compiled tests first (Generates options) none some = none refl
+pub tests_step : (compiled tests : List Event) (first : DiskState) (r : Reading) → (plan_in r ≡ None → tests ≡ []) →
+    ((asked : Testing) → r ≡ Runs asked → HasTested asked.order asked.plan (work_over records_in_image asked.order first) compiled tests) → TestsStep records_in_image (order_of r) (plan_in r) compiled tests first
+tests_step compiled tests first Bad none some = none refl
+tests_step compiled tests first (Child tool) none some = none refl
+tests_step compiled tests first (Stops reason) none some = none refl
+tests_step compiled tests first (Over limit number) none some = none refl
+tests_step compiled tests first (Lists graph) none some = none refl
+tests_step compiled tests first (ListsTests tests_there) none some = none refl
+tests_step compiled tests first (Exports path text) none some = none refl
+tests_step compiled tests first (Builds order warnings) none some = none refl
+tests_step compiled tests first (Runs asked) none some = some asked refl
+tests_step compiled tests first (Generates options) none some = none refl
 
-module _ (scan : List ℕ → Finding) (answer : Request → Exit) (words : List (List ℕ)) (sources : Sources) (one two : Outcome) (before after : Deeds) where
+module _ (scan : List ℕ → Finding) (compiler : Request → Exit) (words : List (List ℕ)) (sources : Sources) (one two : Outcome) (before after : Deeds) where
   abbrev r : Reading
   r = reading scan words sources
 
   abbrev First : DiskState → DiskState → Type 0
-  First first middle = RunsAs scan answer r (run_by words one before) first middle
+  First first middle = RunsAs scan compiler r (run_by words one before) first middle
 
   abbrev Second : DiskState → DiskState → Type 0
-  Second middle last = RunsAs scan answer r (run_by words two after) middle last
+  Second middle last = RunsAs scan compiler r (run_by words two after) middle last
 
   -- after a run that is done each file has a record of what would be asked for it now
   each_recorded : (first middle : DiskState) → IsReadable middle → First first middle → (order_in r).clean ≡ false → HasBuilt one → (position : ℕ) → position < length (order_in r).graph
@@ -156,23 +152,22 @@ module _ (scan : List ℕ → Finding) (answer : Request → Exit) (words : List
       subst (λ (clean : Bool). IsRecorded (latest_over records_in_image clean middle) (order_in r).graph position) (sym kept_store)
       (did.recorded (built_ended one done) position inside (did.made done position inside) (reads_of middle) readable)
 
-  pub ran_twice : (first middle last : DiskState) (old new : List Event) → IsReadable middle → First first middle → Second middle last → new ≡ (old ++ before.events) ++ after.events → TestsOf answer r before.events first → TestsOf answer r after.events middle → RanTwice scan answer words sources (record { first = one; second = two }) (record { disk = first; journal = old }) (record { disk = last; journal = new })
-  unfolding IsHistory IsTestedHistory
+  pub ran_twice : (first middle last : DiskState) (old new : List Event) → IsReadable middle → First first middle → Second middle last → new ≡ (old ++ before.events) ++ after.events → TestsOf r before.events first → TestsOf r after.events middle → RanTwice scan compiler words sources (record { first = one; second = two }) (record { disk = first; journal = old }) (record { disk = last; journal = new })
+  unfolding IsHistory
   ran_twice first middle last old new readable did next journal tests again =
-      let kept_at : RunStep (world_of scan answer) (order_of r) (run_by words two after) (last_state first before.later) = subst (RunStep (world_of scan answer) (order_of r) (run_by words two after)) (sym did.ends) next.step in
+      let kept_at : RunStep (world_of scan compiler) (order_of r) (run_by words two after) (last_state first before.later) = subst (RunStep (world_of scan compiler) (order_of r) (run_by words two after)) (sym did.ends) next.step in
       let none : (order_in r).clean ≡ false → HasBuilt one → compile_part after.events ≡ [] = λ kept done.
-      nothing_started scan answer (run_by words two after) middle (order_of r) next.step (each_recorded first middle readable did kept done) in
+      nothing_started scan compiler (run_by words two after) middle (order_of r) next.step (each_recorded first middle readable did kept done) in
       record {
         before = before;
         after = after;
-        history = (did.step, (kept_at, tt));
-        tested = (
-          (did.step, tests_step answer (compile_part before.events) (test_part before.events) first r tests.untested tests.tested),
+        history = (
+          (did.step, tests_step (compile_part before.events) (test_part before.events) first r tests.untested tests.tested),
           (
             (
               kept_at,
-              subst (TestsStep answer records_in_image (order_of r) (plan_in r) (compile_part after.events) (test_part after.events)) (sym did.ends)
-                  (tests_step answer (compile_part after.events) (test_part after.events) middle r again.untested again.tested),
+              subst (TestsStep records_in_image (order_of r) (plan_in r) (compile_part after.events) (test_part after.events)) (sym did.ends)
+                  (tests_step (compile_part after.events) (test_part after.events) middle r again.untested again.tested),
             ),
             tt,
           ),
@@ -185,46 +180,35 @@ module _ (scan : List ℕ → Finding) (answer : Request → Exit) (words : List
 
   -- a stop at a moment of the first run has left what the second finds
   module _ (first middle moment left last : DiskState) (did : First first middle) (is : IsMoment moment first before.later) (stop : IsLeft moment left) (next : Second left last) where
-    two_runs : (events rest : List Event) → compile_part before.events ≡ events ++ rest →
-        IsHistory (world_of scan answer) sources first (Stopped (run_by words one before) (record { events = events; moment = moment; disk = left }) ∷ Ran (run_by words two after) ∷ [])
-    unfolding IsHistory
-    two_runs events rest prefix = (did.step, record { rest = rest; prefix = prefix; moment = is; left = stop }, (next.step, tt))
+    module _ (did_test : TestsOf r before.events first) (then_test : TestsOf r after.events left) where
+      two_runs : (events rest tests more : List Event) → compile_part before.events ≡ events ++ rest → test_part before.events ≡ tests ++ more → ((tests ≡ [] → ⊥) → events ≡ compile_part before.events) →
+          IsHistory (world_of scan compiler) sources first (Stopped (run_by words one before) (record { events = events; tests = tests; moment = moment; disk = left }) ∷ Ran (run_by words two after) ∷ [])
+      unfolding IsHistory
+      two_runs events rest tests more prefix front parted = (
+        (did.step, tests_step (compile_part before.events) (test_part before.events) first r did_test.untested did_test.tested),
+        record { rest = rest; prefix = prefix; more = more; tested = front; parted = parted; moment = is; left = stop },
+        ((next.step, tests_step (compile_part after.events) (test_part after.events) left r then_test.untested then_test.tested), tt),
+      )
 
-    two_tested : TestsOf answer r before.events first → TestsOf answer r after.events left → (events rest tests more : List Event) → compile_part before.events ≡ events ++ rest → test_part before.events ≡ tests ++ more → ((tests ≡ [] → ⊥) → events ≡ compile_part before.events) →
-        IsTestedHistory (tested_world_of scan answer) sources first
-        (tested.Stopped (tested_by words one before) (record { stop = record { events = events; moment = moment; disk = left }; tests = tests }) ∷ tested.Ran (tested_by words two after) ∷ [])
-    unfolding IsTestedHistory
-    two_tested did_test then_test events rest tests more prefix front parted = (
-      (did.step, tests_step answer (compile_part before.events) (test_part before.events) first r did_test.untested did_test.tested),
-      record { build = record { rest = rest; prefix = prefix; moment = is; left = stop }; rest = more; prefix = front; parted = parted },
-      ((next.step, tests_step answer (compile_part after.events) (test_part after.events) left r then_test.untested then_test.tested), tt),
-    )
+      spares : (name : FileName) (kept : Record) → IsAcknowledged (world_of scan compiler) name kept moment → SparesFile (world_of scan compiler) (order_of r) name kept.asked (run_by words two after) left
+      unfolding AllSpare
+      spares name kept here =
+          (stopped_spares (world_of scan compiler) sources first (run_by words one before) (record { events = compile_part before.events; tests = test_part before.events; moment = moment; disk = left }) (Ran (run_by words two after) ∷ []) name kept
+          (two_runs (compile_part before.events) [] (test_part before.events) [] (sym (append-nil (compile_part before.events))) (sym (append-nil (test_part before.events))) (λ some. refl)) here).0
 
-    spares : (name : FileName) (kept : Record) → IsAcknowledged (world_of scan answer) name kept moment → SparesFile (world_of scan answer) (order_of r) name kept.asked (run_by words two after) left
-    unfolding AllSpare
-    spares name kept here =
-        (stopped_spares (world_of scan answer) sources first (run_by words one before) (record { events = compile_part before.events; moment = moment; disk = left }) (Ran (run_by words two after) ∷ []) name kept
-        (two_runs (compile_part before.events) [] (sym (append-nil (compile_part before.events)))) here).0
-
-    pub ran_after_stop : (old new : List Event) → IsReadable first → new ≡ (old ++ before.events) ++ after.events → TestsOf answer r before.events first → TestsOf answer r after.events left →
-        RanAfterStop scan answer words sources (record { first = one; second = two }) (record { failed = before.disk_failed; first = first; later = before.later; moment = moment }) (record { disk = left; journal = old }) (record { disk = last; journal = new })
+    pub ran_after_stop : (old new : List Event) → IsReadable first → new ≡ (old ++ before.events) ++ after.events → TestsOf r before.events first → TestsOf r after.events left →
+        RanAfterStop scan compiler words sources (record { first = one; second = two }) (record { failed = before.disk_failed; first = first; later = before.later; moment = moment }) (record { disk = left; journal = old }) (record { disk = last; journal = new })
     ran_after_stop old new readable journal tests again = record {
       before = before.events;
       after = after;
-      history = two_runs;
-      tested = two_tested tests again;
+      history = two_runs tests again;
       ends = next.ends;
       journal = journal;
-      spares = spares;
-      exact = λ done position. exact_starts scan answer (run_by words two after) left r last next done position;
+      spares = spares tests again;
+      exact = λ done position. exact_starts scan compiler (run_by words two after) left r last next done position;
     }
 
--- from an empty disk each run of the program is right
-pub right_from_empty : (scan : List ℕ → Finding) (answer : Request → Exit) (sources : Sources) (steps : List HistoryStep) → IsHistory (world_of scan answer) sources (settled_disk empty_image) steps →
-    AllRight (world_of scan answer) sources (settled_disk empty_image) steps
-right_from_empty scan answer sources steps history = all_right_from_empty (world_of scan answer) steps sources none_in_empty_image history
-
--- and so is each with its tests
-pub tests_from_empty : (scan : List ℕ → Finding) (answer : Request → Exit) (sources : Sources) (steps : List TestedStep) → IsTestedHistory (tested_world_of scan answer) sources (settled_disk empty_image) steps →
-    AllTestedRight (tested_world_of scan answer) sources (settled_disk empty_image) steps
-tests_from_empty scan answer sources steps history = all_tested_right_from_empty (tested_world_of scan answer) steps sources none_in_empty_image history
+-- from an empty disk each run of the program is right with its tests
+pub right_from_empty : (scan : List ℕ → Finding) (compiler : Request → Exit) (sources : Sources) (steps : List HistoryStep) → IsHistory (world_of scan compiler) sources (settled_disk empty_image) steps →
+    AllRight (world_of scan compiler) sources (settled_disk empty_image) steps
+right_from_empty scan compiler sources steps history = all_right_from_empty (world_of scan compiler) steps sources none_in_empty_image history

@@ -10,16 +10,15 @@ use Rattle.outside.specs.Disks.{DiskState}
 use Rattle.outside.specs.Commits.{last_state}
 use Rattle.run_spec.specs.ChildJournal.{progress_of}
 use Rattle.run_spec.specs.Faithful.{IsFaithfulDisk}
-use Rattle.run_spec.specs.Histories.{Sources, ProgramRun, Ran, Stopped, IsHistory, work_over}
+use Rattle.run_spec.specs.Histories.{Sources, ProgramRun, work_over}
 use Rattle.run_spec.specs.Settled.{request_unless}
 use Rattle.run_spec.specs.JournalParts.{compile_part, test_part}
 use Rattle.run_laws.specs.Spares.{IsAcknowledged, SparesFile}
 use Rattle.vhdl_spec.specs.Scans.{Finding}
-use Rattle.run_tests.specs.Histories.{TestedRun, IsTestedHistory}
-use Rattle.run_tests.specs.Histories as tested
+use Rattle.run_tests.specs.Histories.{Ran, Stopped, IsHistory}
 use Rattle.vunit_top.specs.Store.{records_in_image}
 use Rattle.vunit_top.specs.Reading.{reading}
-use Rattle.vunit_top.specs.Runs.{world_of, tested_world_of, run_of}
+use Rattle.vunit_top.specs.Runs.{world_of, run_of}
 use Rattle.vunit_top.specs.Said.{HasBuilt, order_of, order_in, plan_in}
 use Rattle.headline.specs.declared.chains.Outcomes.{Outcomes}
 
@@ -34,10 +33,6 @@ pub record Deeds : Type 0 where
 abbrev pub run_by : List (List ℕ) → Outcome → Deeds → ProgramRun
 run_by words result deeds = run_of words result deeds.disk_failed deeds.events deeds.later
 
--- the run of the program with these words and this answer that did this, with the events of its tests
-abbrev pub tested_by : List (List ℕ) → Outcome → Deeds → TestedRun
-tested_by words result deeds = record { run = run_by words result deeds; tests = test_part deeds.events }
-
 -- what objects tell between two runs: the state of a disk, and the events of the journal
 pub record ChainState : Type 0 where
   pub disk : DiskState
@@ -51,37 +46,32 @@ pub record StoppedDisk : Type 0 where
   pub later : List DiskState
   pub moment : DiskState
 
--- Two runs over one disk are a history, also with their tests, which ends at the last moment of the disk; the journal has what
+-- Two runs over one disk are a history with their tests, which ends at the last moment of the disk; the journal has what
 -- both did. After a first one that is done, or whose tests failed, the second starts no compiler,
 -- unless it is to build all anew; and nothing at all, where no tests are to be run.
-pub record RanTwice (scan : List ℕ → Finding) (answer : Request → Exit) (words : List (List ℕ)) (sources : Sources) (outcomes : Outcomes) (old new : ChainState) : Type 0 where
+pub record RanTwice (scan : List ℕ → Finding) (compiler : Request → Exit) (words : List (List ℕ)) (sources : Sources) (outcomes : Outcomes) (old new : ChainState) : Type 0 where
   pub before : Deeds
   pub after : Deeds
-  pub history : IsHistory (world_of scan answer) sources old.disk (Ran (run_by words outcomes.first before) ∷ Ran (run_by words outcomes.second after) ∷ [])
-  pub tested : IsTestedHistory (tested_world_of scan answer) sources old.disk (tested.Ran (tested_by words outcomes.first before) ∷ tested.Ran (tested_by words outcomes.second after) ∷ [])
+  pub history : IsHistory (world_of scan compiler) sources old.disk (Ran (run_by words outcomes.first before) ∷ Ran (run_by words outcomes.second after) ∷ [])
   pub ends : last_state (last_state old.disk before.later) after.later ≡ new.disk
   pub journal : new.journal ≡ (old.journal ++ before.events) ++ after.events
   pub fresh : (order_in (reading scan words sources)).clean ≡ false → HasBuilt outcomes.first → compile_part after.events ≡ []
   pub idle : (order_in (reading scan words sources)).clean ≡ false → HasBuilt outcomes.first → plan_in (reading scan words sources) ≡ None → after.events ≡ []
 
 -- A run is stopped at a moment of its disk, and another run finds what that stop has left. Whatever prefix of its events the
--- stop leaves, the two are a history, also with their tests. The second run starts no file of which is asked what a record has that
--- was acknowledged at that moment. Where it is done, or its tests failed, it starts exactly the files that the settled build asks for over
--- the records of the disk that is left; where it is to build all anew, no record counts.
-pub record RanAfterStop (scan : List ℕ → Finding) (answer : Request → Exit) (words : List (List ℕ)) (sources : Sources) (outcomes : Outcomes) (stopped : StoppedDisk) (old new : ChainState) : Type 0 where
+-- stop leaves, the two are a history with their tests. The second run starts no file of which is asked what a record has
+-- that was acknowledged at that moment. Where it is done, or its tests failed, it starts exactly the files that the settled build
+-- asks for over the records of the disk that is left; where it is to build all anew, no record counts.
+pub record RanAfterStop (scan : List ℕ → Finding) (compiler : Request → Exit) (words : List (List ℕ)) (sources : Sources) (outcomes : Outcomes) (stopped : StoppedDisk) (old new : ChainState) : Type 0 where
   pub before : List Event
   pub after : Deeds
-  pub history : (events rest : List Event) → compile_part before ≡ events ++ rest →
-      IsHistory (world_of scan answer) sources stopped.first
-      (Stopped (run_of words outcomes.first stopped.failed before stopped.later) (record { events = events; moment = stopped.moment; disk = old.disk }) ∷ Ran (run_by words outcomes.second after) ∷ [])
-  pub tested : (events rest tests more : List Event) → compile_part before ≡ events ++ rest → test_part before ≡ tests ++ more → ((tests ≡ [] → ⊥) → events ≡ compile_part before) →
-      IsTestedHistory (tested_world_of scan answer) sources stopped.first
-      (tested.Stopped (record { run = run_of words outcomes.first stopped.failed before stopped.later; tests = test_part before })
-      (record { stop = record { events = events; moment = stopped.moment; disk = old.disk }; tests = tests }) ∷ tested.Ran (tested_by words outcomes.second after) ∷ [])
+  pub history : (events rest tests more : List Event) → compile_part before ≡ events ++ rest → test_part before ≡ tests ++ more → ((tests ≡ [] → ⊥) → events ≡ compile_part before) →
+      IsHistory (world_of scan compiler) sources stopped.first
+      (Stopped (run_of words outcomes.first stopped.failed before stopped.later) (record { events = events; tests = tests; moment = stopped.moment; disk = old.disk }) ∷ Ran (run_by words outcomes.second after) ∷ [])
   pub ends : last_state old.disk after.later ≡ new.disk
   pub journal : new.journal ≡ (old.journal ++ before) ++ after.events
-  pub spares : (name : FileName) (kept : Record) → IsAcknowledged (world_of scan answer) name kept stopped.moment →
-      SparesFile (world_of scan answer) (order_of (reading scan words sources)) name kept.asked (run_by words outcomes.second after) old.disk
+  pub spares : (name : FileName) (kept : Record) → IsAcknowledged (world_of scan compiler) name kept stopped.moment →
+      SparesFile (world_of scan compiler) (order_of (reading scan words sources)) name kept.asked (run_by words outcomes.second after) old.disk
   pub exact : HasBuilt outcomes.second → (position : ℕ) →
       let work = work_over records_in_image (order_in (reading scan words sources)) old.disk in
-      Contains (progress_of work (compile_part after.events)).taken position ↔ ((request : Request) × (request_unless answer work.graph work.current position ≡ Some request))
+      Contains (progress_of work (compile_part after.events)).taken position ↔ ((request : Request) × (request_unless compiler work.graph work.current position ≡ Some request))

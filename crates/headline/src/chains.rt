@@ -1,9 +1,12 @@
 //! Two runs of the program, one after the other.
 
 ghost use Rattle.std.specs.Prelude.{◌≡◌, [], ℕ, List, false};
+ghost use Rattle.base.specs.declared.child.Exit.{Exit};
+ghost use Rattle.base.specs.declared.child.Request.{Request};
 ghost use Rattle.outside.specs.Disks.{DiskState, added_since};
 ghost use Rattle.run_spec.specs.ChildJournal.{since};
 ghost use Rattle.run_spec.specs.Histories.{IsMoment, IsLeft};
+ghost use Rattle.run_spec.specs.JournalParts.{IsCompilerOf};
 ghost use Rattle.vhdl_spec.specs.Scans.{Finding, IsScanner};
 ghost use Rattle.run_build.specs.Building.{has_risen};
 ghost use Rattle.vunit_top.specs.Reading.{generates, words_task};
@@ -41,7 +44,8 @@ pub fn run_twice<I: Source, T: Tree, D: Disk, P: Procs, O: Sink, R: Reports>(
     ensures listed { T.listed tree.new ≡ T.listed tree.old }
     ensures ran { (scan : List ℕ → Finding) → IsScanner scan → T.tells → D.tells → P.tells →
         generates (words_task words.now) ≡ false →
-        RanTwice scan (P.answer procs.old) words.now
+        (compiler : Request → Exit) → IsCompilerOf compiler (P.answer procs.old) →
+        RanTwice scan compiler words.now
         (record { file = T.file tree.old; listed = T.listed tree.old })
         result
         (record { disk = (D.moments disk.old).now; journal = P.journal procs.old })
@@ -75,7 +79,8 @@ pub fn run_after_stop<I: Source, T: Tree, D: Disk, E: Disk, P: Procs, O: Sink, R
         IsMoment moment (D.moments disk.old).now
         (added_since (D.moments disk.old) (D.moments disk.new)) →
         IsLeft moment (E.moments left.old).now →
-        RanAfterStop scan (P.answer procs.old) words.now
+        (compiler : Request → Exit) → IsCompilerOf compiler (P.answer procs.old) →
+        RanAfterStop scan compiler words.now
         (record { file = T.file tree.old; listed = T.listed tree.old })
         result
         (record {

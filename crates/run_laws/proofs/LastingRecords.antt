@@ -114,7 +114,7 @@ pub one_of_name : (world : World) (name : FileName) (kept : Record) (order : Ord
 one_of_name world name kept order run first build file =
     let setting : Work = work_over world.records_of order first in
     subst (λ (n : FileName). (list_any (is_of n) (commits setting run.events) ≡ false) ⊎ HasOne n (commits setting run.events)) file.is_name
-    (one_committed order.graph build.graph file.position file.entry file.is_entry (progress_of setting run.events).ends (ended_once world.answer setting file.position run.events build.lawful build.answered))
+    (one_committed order.graph build.graph file.position file.entry file.is_entry (progress_of setting run.events).ends (ended_once world.compiler setting file.position run.events build.lawful build.answered))
 
 module _ (world : World) (name : FileName) (kept : Record) (order : Order) (run : ProgramRun) (first : DiskState) (build : IsBuildRun world order run first) (file : HasFileAsked world order first name kept.asked) where
   abbrev records_of : Image → List Record

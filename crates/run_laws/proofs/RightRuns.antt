@@ -1,4 +1,4 @@
--- Each run of a history is right: by induction on the steps, over one lemma on a run.
+-- A run from a disk of true records is right.
 use Rattle.std.proofs.Common.{◌≡◌, ◌⊎◌, Bool, true, false, cond, List, [], ◌∷◌, ◌++◌, Option, Some, None, refl, sym, subst, inl, inr, arith}
 use Rattle.std.specs.Prelude.{All}
 use Rattle.std.specs.List.{AllByRecursion}
@@ -20,13 +20,13 @@ use Rattle.run_spec.specs.ChildJournal.{Work, Lawful, Answered}
 use Rattle.run_spec.specs.CleanBuild.{RecordsClean}
 use Rattle.run_spec.specs.Commits.{commits}
 use Rattle.run_spec.specs.Faithful.{IsTrueRecord, IsFaithful, IsFaithfulDisk}
-use Rattle.run_spec.specs.Histories.{Sources, Order, World, ProgramRun, HistoryStep, Edited, Ran, Stopped, empty_image, IsReadable, IsBuildRun, IsIdleRun, RunStep, IsHistory, work_over, latest_over}
+use Rattle.run_spec.specs.Histories.{Order, World, ProgramRun, IsReadable, IsBuildRun, IsIdleRun, RunStep, work_over, latest_over}
 use Rattle.run_spec.proofs.Prefixes.{lawful_prefix, lawful_none}
 use Rattle.run_laws.proofs.CleanCommits.{commits_true}
 use Rattle.run_laws.proofs.CleanSettled.{request_clean}
 use Rattle.run_laws.proofs.JournalSettled.{asked}
 use Rattle.run_laws.proofs.TrueRecords.{records_clean, All-latest, All-latest_alone}
-use Rattle.run_laws.specs.Rights.{IsRightRun, IsRightStep, AllRight}
+use Rattle.run_laws.specs.Rights.{IsRightRun, IsRightStep}
 use Rattle.run_laws.proofs.Moments.{at_moment, on_left}
 
 -- no event is before the first
@@ -44,10 +44,10 @@ All-prefix P (kept ∷ prefix) left all = All-cons P kept prefix (All-head P kep
 
 module _ (world : World) where
   abbrev True : Record → Type 0
-  True kept = IsTrueRecord world.answer kept
+  True kept = IsTrueRecord world.compiler kept
 
   abbrev Faithful : DiskState → Type 0
-  Faithful disk = IsFaithfulDisk world.answer world.records_of disk
+  Faithful disk = IsFaithfulDisk world.compiler world.records_of disk
 
   still_true : (before now : List Record) → IsAllOrLatest before now → All True before → All True now
   still_true before now (inl same) each = subst (All True) (sym same) each
@@ -58,7 +58,7 @@ module _ (world : World) where
   base_true clean first base faithful (inr none) = subst (All True) (sym none.1) (All-nil True)
 
   -- an image with records from before and a prefix of what was committed has true records alone
-  image_true : (clean : Bool) (more : List Record) (first : DiskState) → Faithful first → All True more → (image : Image) → HasBaseAndPrefix world.records_of clean more first image → IsFaithful world.answer world.records_of image
+  image_true : (clean : Bool) (more : List Record) (first : DiskState) → Faithful first → All True more → (image : Image) → HasBaseAndPrefix world.records_of clean more first image → IsFaithful world.compiler world.records_of image
   image_true clean more first faithful all image has =
       subst (All True) (sym has.are) (All-append True has.base has.prefix (base_true clean first has.base faithful has.from) (All-prefix True has.prefix has.left (subst (All True) has.all all)))
 
@@ -67,23 +67,23 @@ module _ (world : World) where
   latest_true records all false name kept is = All-latest True name records kept all is
 
   -- what a run goes by is what a clean build makes
-  pub run_clean : (order : Order) (first : DiskState) → IsGraph order.graph → IsReadable first → Faithful first → RecordsClean world.answer order.graph (work_over world.records_of order first).current
+  pub run_clean : (order : Order) (first : DiskState) → IsGraph order.graph → IsReadable first → Faithful first → RecordsClean world.compiler order.graph (work_over world.records_of order first).current
   run_clean order first graph readable faithful =
-      records_clean world.answer (latest_over world.records_of order.clean first) order.graph graph (latest_true (world.records_of (reads_of first)) (faithful (reads_of first) readable) order.clean)
+      records_clean world.compiler (latest_over world.records_of order.clean first) order.graph graph (latest_true (world.records_of (reads_of first)) (faithful (reads_of first) readable) order.clean)
 
   pub build_right : (order : Order) (run : ProgramRun) (first : DiskState) → IsReadable first → Faithful first → IsBuildRun world order run first → IsRightRun world order run first
   build_right order run first readable faithful build =
       let setting : Work = work_over world.records_of order first in
-      let clean : RecordsClean world.answer order.graph setting.current = run_clean order first build.graph readable faithful in
-      let all : All True (commits setting run.events) = commits_true world.answer setting build.graph run.events build.lawful build.answered in
+      let clean : RecordsClean world.compiler order.graph setting.current = run_clean order first build.graph readable faithful in
+      let all : All True (commits setting run.events) = commits_true world.compiler setting build.graph run.events build.lawful build.answered in
       record {
-        faithful = all_weaker (HasBaseAndPrefix world.records_of order.clean (commits setting run.events) first) (IsFaithful world.answer world.records_of) (first ∷ run.later)
+        faithful = all_weaker (HasBaseAndPrefix world.records_of order.clean (commits setting run.events) first) (IsFaithful world.compiler world.records_of) (first ∷ run.later)
             (image_true order.clean (commits setting run.events) first faithful all)
             (phases_give world.records_of order.clean (commits setting run.events) first readable build.acknowledged run.later build.phases);
         lawful = λ before rest e. lawful_prefix setting before rest (subst (Lawful setting) e build.lawful);
         asked = λ before rest ticket request e.
-            let is = asked world.answer setting build.graph before rest ticket request (subst (Lawful setting) e build.lawful) (subst (Answered world.answer) e build.answered) in
-            (is.0, is.1, request_clean world.answer order.graph build.graph setting.current clean is.0 request is.2);
+            let is = asked world.compiler setting build.graph before rest ticket request (subst (Lawful setting) e build.lawful) (subst (Answered world.compiler) e build.answered) in
+            (is.0, is.1, request_clean world.compiler order.graph build.graph setting.current clean is.0 request is.2);
       }
 
   idle_right : (order : Order) (run : ProgramRun) (first : DiskState) → Faithful first → IsIdleRun run → IsRightRun world order run first
@@ -102,7 +102,7 @@ module _ (world : World) where
   run_right (Some order) run first readable faithful (inl idle) = idle_right order run first faithful idle
   run_right (Some order) run first readable faithful (inr build) = build_right order run first readable faithful build
 
-  run_faithful : (order : Option Order) (run : ProgramRun) (first : DiskState) → IsReadable first → Faithful first → RunStep world order run first → AllByRecursion Faithful (first ∷ run.later)
+  pub run_faithful : (order : Option Order) (run : ProgramRun) (first : DiskState) → IsReadable first → Faithful first → RunStep world order run first → AllByRecursion Faithful (first ∷ run.later)
   run_faithful None run first readable faithful idle = idle_moments Faithful run first idle faithful
   run_faithful (Some order) run first readable faithful step = (run_right (Some order) run first readable faithful step).faithful
 
@@ -110,29 +110,3 @@ module _ (world : World) where
   run_readable None run first readable idle = idle_moments IsReadable run first idle readable
   run_readable (Some order) run first readable (inl idle) = idle_moments IsReadable run first idle readable
   run_readable (Some order) run first readable (inr build) = (readable, build.readable)
-
-  -- each run of a history is right
-  pub all_right : (steps : List HistoryStep) (sources : Sources) (disk : DiskState) → IsReadable disk → Faithful disk → IsHistory world sources disk steps → AllRight world sources disk steps
-  unfolding IsHistory AllRight
-  all_right [] sources disk readable faithful history = faithful
-  all_right (Edited new ∷ steps) sources disk readable faithful history = all_right steps new disk readable faithful history
-  all_right (Ran run ∷ steps) sources disk readable faithful history =
-      let order : Option Order = world.reading run.words sources in (
-        run_right order run disk readable faithful history.0,
-        all_right steps sources (last_state disk run.later) (all_last IsReadable disk run.later (run_readable order run disk readable history.0))
-            (all_last Faithful disk run.later (run_faithful order run disk readable faithful history.0)) history.1,
-      )
-  all_right (Stopped run stop ∷ steps) sources disk readable faithful history =
-      let order : Option Order = world.reading run.words sources in (
-        run_right order run disk readable faithful history.0,
-        all_right steps sources stop.disk history.1.left.readable
-            (on_left (IsFaithful world.answer world.records_of) stop.moment stop.disk history.1.left
-            (at_moment Faithful stop.moment disk run.later history.1.moment (run_faithful order run disk readable faithful history.0))) history.2,
-      )
-
-  -- also from an empty disk, of which nothing was recorded
-  pub all_right_from_empty : (steps : List HistoryStep) (sources : Sources) → world.records_of empty_image ≡ [] → IsHistory world sources (settled_disk empty_image) steps → AllRight world sources (settled_disk empty_image) steps
-  all_right_from_empty steps sources none history =
-      let side : IsSoundSide (settled []) = settled_sound [] (omega arith) in
-      all_right steps sources (settled_disk empty_image) (record { a = side.image; b = side.image })
-      (λ image is. subst (IsFaithful world.answer world.records_of) (sym (settled_disk_only empty_image image is)) (subst (All True) (sym none) (All-nil True))) history

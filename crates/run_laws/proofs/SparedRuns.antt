@@ -21,7 +21,7 @@ use Rattle.outside.proofs.MomentLaws.{all_last, all_weaker}
 use Rattle.outside.proofs.PhaseLaws.{phases_give}
 use Rattle.run_spec.specs.ChildJournal.{Work, BuildProgress, after_all, progress_of, has_all, built_at, or_else, output_at, artefact_so_far}
 use Rattle.run_spec.specs.Commits.{record_at, commits}
-use Rattle.run_spec.specs.Histories.{Sources, Order, World, ProgramRun, HistoryStep, Edited, Ran, Stopped, IsReadable, IsBuildRun, RunStep, IsHistory, work_over, latest_over}
+use Rattle.run_spec.specs.Histories.{Order, World, ProgramRun, IsReadable, IsBuildRun, RunStep, work_over, latest_over}
 use Rattle.run_spec.proofs.LatestRecords.{latest_before_none, none_of_prefix}
 use Rattle.run_spec.specs.Settled.{Settled, Blocked, settled_artefact, settled_by, request_over, next_settled, settle, artefact_settled, is_asked, request_unless}
 use Rattle.run_spec.proofs.Artefacts.{deps_before, artefact_free}
@@ -34,7 +34,7 @@ use Rattle.run_laws.proofs.JournalKeeps.{was_taken, orderly_progress, list_all-f
 use Rattle.run_laws.proofs.JournalStarted.{held, nothing_due}
 use Rattle.run_laws.proofs.JournalSettled.{started_stale}
 use Rattle.run_laws.proofs.TrueRecords.{latest-latest_alone}
-use Rattle.run_laws.specs.Spares.{IsAcknowledged, HasFile, HasFileAsked, settled_over, SparesFile, LeavesRecord, AllSpare}
+use Rattle.run_laws.specs.Spares.{IsAcknowledged, HasFile, HasFileAsked, settled_over, SparesFile, LeavesRecord}
 use Rattle.run_laws.proofs.CommittedNames.{none_committed}
 use Rattle.run_laws.proofs.Moments.{at_moment, on_left}
 use Rattle.run_laws.proofs.RightRuns.{idle_moments, run_readable}
@@ -115,8 +115,8 @@ module _ (world : World) (name : FileName) (kept : Record) where
         let latest_is : latest_over world.records_of order.clean first file.entry.name ≡ Some (record { asked = asked_of file.entry built; artefact = kept.artefact }) =
         ap (latest_over world.records_of order.clean first) file.is_name ∙ knows ∙ ap (λ (a : Asked). Some (record { asked = a; artefact = kept.artefact })) (sym asked.is_asked) in
         let current = current_of_record (latest_over world.records_of order.clean first) order.graph file.position file.entry built file.is_entry kept.artefact latest_is in
-        let stale = started_stale world.answer setting build.graph run.events build.lawful build.answered file.position contains in
-        none-some kept.artefact (sym (unrecorded world.answer setting build.graph file.position stale.0 stale.1) ∙ current)
+        let stale = started_stale world.compiler setting build.graph run.events build.lawful build.answered file.position contains in
+        none-some kept.artefact (sym (unrecorded world.compiler setting build.graph file.position stale.0 stale.1) ∙ current)
 
     -- of such a file nothing is committed
     pub uncommitted : latest_over world.records_of order.clean first name ≡ Some kept → HasFileAsked world order first name kept.asked → list_any (is_of name) (commits setting run.events) ≡ false
@@ -125,7 +125,7 @@ module _ (world : World) (name : FileName) (kept : Record) where
         let progress : BuildProgress = progress_of setting run.events in
         let fresh : was_taken progress file.position ≡ false = unheld progress.taken file.position (unstarted knows asked) in
         subst (λ (n : FileName). list_any (is_of n) (commits setting run.events) ≡ false) file.is_name
-        (none_committed order.graph build.graph file.position file.entry file.is_entry progress.ends (no_end progress file.position fresh progress.ends (orderly_progress world.answer setting run.events build.lawful build.answered).ends))
+        (none_committed order.graph build.graph file.position file.entry file.is_entry progress.ends (no_end progress file.position fresh progress.ends (orderly_progress world.compiler setting run.events build.lawful build.answered).ends))
 
     -- where nothing is committed of its name, an acknowledged record stays so
     image_keeps : (more : List Record) → list_any (is_of name) more ≡ false → IsAcknowledged world name kept first → (image : Image) → HasBaseAndPrefix world.records_of order.clean more first image → latest name (world.records_of image) ≡ Some kept
@@ -144,39 +144,18 @@ module _ (world : World) (name : FileName) (kept : Record) where
   left_none order run first build over readable here (inl file) = uncommitted order run first build over (known order first readable over here) file
   left_none order run first build over readable here (inr none) = none
 
-  run_spares : (order : Option Order) (run : ProgramRun) (first : DiskState) → IsReadable first → IsAcknowledged world name kept first → RunStep world order run first → SparesFile world order name kept.asked run first
+  pub run_spares : (order : Option Order) (run : ProgramRun) (first : DiskState) → IsReadable first → IsAcknowledged world name kept first → RunStep world order run first → SparesFile world order name kept.asked run first
   run_spares None run first readable here step = tt
   run_spares (Some order) run first readable here (inl idle) = λ over file contains.
       nothing_taken (work_over world.records_of order first) file.file.position (subst (λ (events : List Event). Contains (progress_of (work_over world.records_of order first) events).taken file.file.position) idle.events contains)
   run_spares (Some order) run first readable here (inr build) = λ over file. unstarted order run first build over (known order first readable over here) file
 
-  run_leaves : (order : Option Order) (run : ProgramRun) (first : DiskState) → IsReadable first → IsAcknowledged world name kept first → RunStep world order run first → LeavesRecord world order name kept run first →
+  pub run_leaves : (order : Option Order) (run : ProgramRun) (first : DiskState) → IsReadable first → IsAcknowledged world name kept first → RunStep world order run first → LeavesRecord world order name kept run first →
       AllByRecursion (IsAcknowledged world name kept) (first ∷ run.later)
   run_leaves None run first readable here idle leaves = idle_moments world (IsAcknowledged world name kept) run first idle here
   run_leaves (Some order) run first readable here (inl idle) leaves = idle_moments world (IsAcknowledged world name kept) run first idle here
   run_leaves (Some order) run first readable here (inr build) leaves =
       stays_acknowledged order run first build leaves.0 readable here (left_none order run first build leaves.0 readable here leaves.1)
-
-  -- no run starts a file at the view of its acknowledged record
-  pub all_spare : (steps : List HistoryStep) (sources : Sources) (disk : DiskState) → IsReadable disk → IsAcknowledged world name kept disk → IsHistory world sources disk steps → AllSpare world name kept sources disk steps
-  unfolding IsHistory AllSpare
-  all_spare [] sources disk readable here history = here
-  all_spare (Edited new ∷ steps) sources disk readable here history = all_spare steps new disk readable here history
-  all_spare (Ran run ∷ steps) sources disk readable here history =
-      let order : Option Order = world.reading run.words sources in (
-        run_spares order run disk readable here history.0,
-        λ leaves.
-            all_spare steps sources (last_state disk run.later) (all_last IsReadable disk run.later (run_readable world order run disk readable history.0))
-            (all_last (IsAcknowledged world name kept) disk run.later (run_leaves order run disk readable here history.0 leaves)) history.1,
-      )
-  all_spare (Stopped run stop ∷ steps) sources disk readable here history =
-      let order : Option Order = world.reading run.words sources in (
-        run_spares order run disk readable here history.0,
-        λ leaves.
-            all_spare steps sources stop.disk history.1.left.readable
-            (on_left (λ image. latest name (world.records_of image) ≡ Some kept) stop.moment stop.disk history.1.left
-            (at_moment (IsAcknowledged world name kept) stop.moment disk run.later history.1.moment (run_leaves order run disk readable here history.0 leaves))) history.2,
-      )
 
 -- where each file has an acknowledged record of what is asked over the artefacts of all, a run starts nothing
 pub nothing_started : (world : World) (order : Order) (run : ProgramRun) (first : DiskState) (artefact_of : ℕ → List ℕ) → IsReadable first → RunStep world (Some order) run first → order.clean ≡ false →

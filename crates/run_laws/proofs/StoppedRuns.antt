@@ -18,15 +18,13 @@ use Rattle.outside.specs.Commits.{HasFirst, most_committed, last_state}
 use Rattle.outside.specs.Phases.{IsCommitting, HasPhases, unopened, opened, committed}
 use Rattle.run_spec.specs.ChildJournal.{Work}
 use Rattle.run_spec.specs.Commits.{commits, ComesAfterCommits, Waits}
-use Rattle.run_spec.specs.Histories.{Sources, Order, World, ProgramRun, Stop, HistoryStep, Stopped, IsReadable, IsMoment, IsBuildRun, RunStep, IsHistory, work_over}
+use Rattle.run_spec.specs.Histories.{Order, World, ProgramRun, IsReadable, IsMoment, IsBuildRun, RunStep, work_over}
 use Rattle.run_spec.proofs.Prefixes.{each_at, commits_prefix}
 use Rattle.run_spec.proofs.LatestRecords.{latest_last, none_of_take}
 use Rattle.base.specs.Names.{is_same_name}
 use Rattle.run_spec.proofs.SameAsked.{same_names}
-use Rattle.run_laws.specs.Spares.{IsAcknowledged, HasFile, HasFileAsked, AllSpare}
+use Rattle.run_laws.specs.Spares.{IsAcknowledged, HasFile, HasFileAsked}
 use Rattle.run_laws.proofs.LastingRecords.{one_of_name, commits_last, run_stays}
-use Rattle.run_laws.proofs.Moments.{at_moment, on_left}
-use Rattle.run_laws.proofs.SparedRuns.{all_spare}
 
 stays_rest : (P : Image → Type 0) (first : DiskState) (rest : List DiskState) (moment : DiskState) (after : List DiskState) → StaysTrue P first (rest ++ moment ∷ after) → StaysTrue P moment after
 stays_rest P first [] moment after stays = stays.1
@@ -71,25 +69,6 @@ lasts_anew world name kept order run first build file acknowledged broken commit
     stays_all (λ image. latest name (world.records_of image) ≡ Some kept) moment is.after
     (stays_from (λ image. latest name (world.records_of image) ≡ Some kept) (last_state first committing.opening) committing.committing is.before moment is.after is.parts
     (commits_last world name kept order run first build file acknowledged broken committing readable)) here
-
--- a record that is acknowledged at the moment of a stop is so on the disk that the stop leaves, and counts in all that follows
-pub stopped_spares : (world : World) (sources : Sources) (disk : DiskState) (run : ProgramRun) (stop : Stop) (steps : List HistoryStep) (name : FileName) (kept : Record) →
-    IsHistory world sources disk (Stopped run stop ∷ steps) → IsAcknowledged world name kept stop.moment → AllSpare world name kept sources stop.disk steps
-unfolding IsHistory
-stopped_spares world sources disk run stop steps name kept history there =
-    all_spare world name kept steps sources stop.disk history.1.left.readable
-    (on_left (λ image. latest name (world.records_of image) ≡ Some kept) stop.moment stop.disk history.1.left there) history.2
-
--- and so does one that was acknowledged before the stop
-pub since_spares : (world : World) (sources : Sources) (disk : DiskState) (run : ProgramRun) (stop : Stop) (steps : List HistoryStep) (order : Order) (name : FileName) (kept : Record) → IsReadable disk →
-    IsHistory world sources disk (Stopped run stop ∷ steps) → world.reading run.words sources ≡ Some order → HasFileAsked world order disk name kept.asked →
-    (order.clean ≡ false) ⊎ (latest name (world.records_of (reads_of disk)) ≡ Some kept → ⊥) →
-    (moment : DiskState) (is : IsMoment moment disk run.later) → IsAcknowledged world name kept moment → IsMoment stop.moment moment is.after → AllSpare world name kept sources stop.disk steps
-unfolding IsHistory
-since_spares world sources disk run stop steps order name kept readable history reading file counts moment is here later =
-    let step : RunStep world (Some order) run disk = subst (λ (o : Option Order). RunStep world o run disk) reading history.0 in
-    let since : AllByRecursion (IsAcknowledged world name kept) (moment ∷ is.after) = lasts world name kept order run disk readable file counts step moment is here in
-    stopped_spares world sources disk run stop steps name kept history (at_moment (IsAcknowledged world name kept) stop.moment moment is.after later since)
 
 -- where one record of a name is alone, none comes after a record of the name
 none_after : (name : FileName) (b : List Record) (o : Record) (a before : List Record) (only : Record) (after : List Record) → b ++ o ∷ a ≡ before ++ only ∷ after → list_any (is_of name) b ≡ false → list_any (is_of name) a ≡ false →

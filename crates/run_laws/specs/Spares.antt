@@ -1,15 +1,14 @@
 -- Which files the runs of a history start no compiler for, and how long a record counts.
-use Rattle.std.specs.Prelude.{◌≡◌, ◌⊎◌, ℕ, true, false, List, [], ◌∷◌, slice_get, Option, Some, None, Contains}
+use Rattle.std.specs.Prelude.{◌≡◌, ◌⊎◌, ℕ, true, false, List, slice_get, Option, Some, None, Contains}
 use Rattle.std.specs.List.{list_any}
 use Rattle.base.specs.declared.file.FileName.{FileName}
 use Rattle.base.specs.declared.graph.Entry.{Entry}
 use Rattle.outside.specs.Disks.{DiskState, EachImage}
 use Rattle.outside.specs.Records.{Asked, Record, asked_of, deps_at, is_of, latest}
-use Rattle.outside.specs.Commits.{last_state}
 use Rattle.run_spec.specs.ChildJournal.{progress_of, built_at, has_all}
 use Rattle.run_spec.specs.Settled.{artefact_settled}
 use Rattle.run_spec.specs.Commits.{commits}
-use Rattle.run_spec.specs.Histories.{Sources, Order, World, ProgramRun, HistoryStep, Edited, Ran, Stopped, work_over}
+use Rattle.run_spec.specs.Histories.{Order, World, ProgramRun, work_over}
 
 -- a record is acknowledged: whatever a stop can leave has it as the latest of its name
 abbrev pub IsAcknowledged : World → FileName → Record → DiskState → Type 0
@@ -24,7 +23,7 @@ pub record HasFile (order : Order) (name : FileName) : Type 0 where
 
 -- what becomes of the files of an order, whatever the order of ends, over the records of the disk that its run finds
 abbrev pub settled_over : World → Order → DiskState → ℕ → Option (List ℕ)
-settled_over world order first = artefact_settled world.answer order.graph (work_over world.records_of order first).current
+settled_over world order first = artefact_settled world.compiler order.graph (work_over world.records_of order first).current
 
 -- The graph of an order has a file of this name, of which this is asked over what becomes of the files that it depends on.
 pub record HasFileAsked (world : World) (order : Order) (first : DiskState) (name : FileName) (asked : Asked) : Type 0 where
@@ -44,15 +43,3 @@ abbrev pub LeavesRecord : World → Option Order → FileName → Record → Pro
 LeavesRecord world None name kept run first = Unit {0}
 LeavesRecord world (Some order) name kept run first =
     (order.clean ≡ false) × (HasFileAsked world order first name kept.asked ⊎ (list_any (is_of name) (commits (work_over world.records_of order first) run.events) ≡ false))
-
--- From a disk on, no run starts the file where what the record has is asked of it, and the record stays acknowledged, until a
--- run that doesn't leave it.
-unfoldable pub AllSpare : World → FileName → Record → Sources → DiskState → List HistoryStep → Type 0
-AllSpare world name kept sources disk [] = IsAcknowledged world name kept disk
-AllSpare world name kept sources disk (Edited new ∷ steps) = AllSpare world name kept new disk steps
-AllSpare world name kept sources disk (Ran run ∷ steps) =
-    SparesFile world (world.reading run.words sources) name kept.asked run disk
-    × (LeavesRecord world (world.reading run.words sources) name kept run disk → AllSpare world name kept sources (last_state disk run.later) steps)
-AllSpare world name kept sources disk (Stopped run stop ∷ steps) =
-    SparesFile world (world.reading run.words sources) name kept.asked run disk
-    × (LeavesRecord world (world.reading run.words sources) name kept run disk → AllSpare world name kept sources stop.disk steps)

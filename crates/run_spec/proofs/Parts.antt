@@ -1,18 +1,19 @@
 -- A lawful journal of a build has compilers' events alone, and none where the graph has no file.
-use Rattle.std.proofs.Common.{◌≡◌, ℕ, Bool, false, not, eqb, List, Option, Some, None, inl, inr, sym, ◌∙◌, [], ◌∷◌, length, refl, ap}
+use Rattle.std.proofs.Common.{◌≡◌, ℕ, Bool, false, not, eqb, List, Option, Some, None, inl, inr, sym, ◌∙◌, [], ◌∷◌, ◌++◌, length, refl, ap}
 use Rattle.std.specs.Prelude.{slice_get, filter}
 use Rattle.std.specs.Option.{option_map, option_and_then}
 use Rattle.std.proofs.lemmas.Bool.{cond-true, cond-false, cases_Bool, false≢true}
 use Rattle.std.proofs.lemmas.Option.{none-some}
 use Rattle.base.specs.declared.graph.Entry.{Entry}
 use Rattle.base.specs.declared.child.Request.{Request}
+use Rattle.base.specs.declared.child.Exit.{Exit}
 use Rattle.base.specs.declared.child.Event.{Event}
 use Rattle.base.specs.declared.child.Event.TheVariants.{Started, Ended, Gone}
 use Rattle.base.specs.Jobs.{compile_request}
 use Rattle.outside.specs.Children.{started_with}
 use Rattle.run_spec.specs.Moves.{first_from, next_start, is_startable, LawfulMoves}
-use Rattle.run_spec.specs.ChildJournal.{Work, End, BuildProgress, empty_progress, artefact_so_far, built_at, workload_of, schedule_of, next_position, request_at, after, moves_after, AreRequested, Lawful}
-use Rattle.run_spec.specs.JournalParts.{is_test, is_test_event, compile_part, test_part}
+use Rattle.run_spec.specs.ChildJournal.{Work, End, BuildProgress, empty_progress, artefact_so_far, built_at, workload_of, schedule_of, next_position, request_at, after, moves_after, AreRequested, EachAfter, HoldsAnswer, Answered, Lawful}
+use Rattle.run_spec.specs.JournalParts.{IsCompilerOf, is_test, is_test_event, compile_part, test_part}
 
 -- without a file nothing can be started
 no_start : (s : Work) (b : BuildProgress) → s.graph ≡ [] → next_position s b ≡ None
@@ -85,3 +86,52 @@ filter_rest {X} test (x ∷ xs) none =
 
 pub all_compiled : (events : List Event) → test_part events ≡ [] → compile_part events ≡ events
 all_compiled events none = filter_rest (is_test_event events) events none
+
+-- ## What compilers answer
+
+-- a ticket that neither of two journals started as a test was not started as one by both
+no_test_of_both : (before more : List Event) (ticket : ℕ) → is_test (started_with ticket before) ≡ false → is_test (started_with ticket more) ≡ false → is_test (started_with ticket (before ++ more)) ≡ false
+no_test_of_both [] more ticket one two = two
+no_test_of_both (Started t r ∷ before) more ticket one two =
+    elim (cases_Bool (eqb t ticket)) [
+      | inl here ↦ ap is_test (cond-true (eqb t ticket) (Some r) (started_with ticket (before ++ more)) here ∙ sym (cond-true (eqb t ticket) (Some r) (started_with ticket before) here)) ∙ one
+      | inr other ↦
+          ap is_test (cond-false (eqb t ticket) (Some r) (started_with ticket (before ++ more)) other)
+          ∙ no_test_of_both before more ticket (sym (ap is_test (cond-false (eqb t ticket) (Some r) (started_with ticket before) other)) ∙ one) two
+    ]
+no_test_of_both (Ended t e ∷ before) more ticket one two = no_test_of_both before more ticket one two
+no_test_of_both (Gone t ∷ before) more ticket one two = no_test_of_both before more ticket one two
+
+no_test_started : (t : ℕ) (request : Request) (ticket : ℕ) → is_test (Some request) ≡ false → is_test (started_with ticket (Started t request ∷ [])) ≡ false
+no_test_started t request ticket plain =
+    elim (cases_Bool (eqb t ticket)) [
+      | inl here ↦ ap is_test (cond-true (eqb t ticket) (Some request) None here) ∙ plain
+      | inr other ↦ ap is_test (cond-false (eqb t ticket) (Some request) None other)
+    ]
+
+module _ (compiler answer : Request → Exit) (is : IsCompilerOf compiler answer) where
+  -- an answer to what was not started as a test is the compiler's
+  compiler_answers : (request : Option Request) (exit : Exit) → is_test request ≡ false → option_map answer request ≡ Some exit → option_map compiler request ≡ Some exit
+  compiler_answers None exit plain answered = absurd (none-some exit answered)
+  compiler_answers (Some request) exit plain answered = ap (λ (e : Exit). Some e) (sym (is request plain)) ∙ answered
+
+  answered_from : (s : Work) (b : BuildProgress) (before events : List Event) → ((ticket : ℕ) → is_test (started_with ticket before) ≡ false) → AreRequested s b events → EachAfter (HoldsAnswer answer) before events → EachAfter (HoldsAnswer compiler) before events
+  unfolding AreRequested EachAfter
+  answered_from s b before [] none requested answered = tt
+  answered_from s b before (Started t r ∷ events) none requested answered = (
+    tt,
+    answered_from s (after s b (Started t r)) (before ++ Started t r ∷ []) events
+        (λ ticket. no_test_of_both before (Started t r ∷ []) ticket (none ticket) (no_test_started t r ticket (plain s b.ends (next_position s b) r requested.0))) requested.1 answered.1,
+  )
+  answered_from s b before (Ended t e ∷ events) none requested answered = (
+    compiler_answers (started_with t before) e (none t) answered.0,
+    answered_from s (after s b (Ended t e)) (before ++ Ended t e ∷ []) events (λ ticket. no_test_of_both before (Ended t e ∷ []) ticket (none ticket) refl) requested.1 answered.1,
+  )
+  answered_from s b before (Gone t ∷ events) none requested answered = (
+    tt,
+    answered_from s (after s b (Gone t)) (before ++ Gone t ∷ []) events (λ ticket. no_test_of_both before (Gone t ∷ []) ticket (none ticket) refl) requested.1 answered.1,
+  )
+
+  -- the ends of a build hold the compiler's answers
+  pub answered_by_compiler : (s : Work) (events : List Event) → Lawful s events → Answered answer events → Answered compiler events
+  answered_by_compiler s events lawful answered = answered_from s empty_progress [] events (λ ticket. refl) lawful.requests answered

@@ -29,7 +29,7 @@ pub no_commits : (setting : Work) → commits setting [] ≡ []
 unfolding after_all
 no_commits setting = refl
 
-no_answers : (world : World) → Answered world.answer []
+no_answers : (world : World) → Answered world.compiler []
 unfolding EachAfter
 no_answers world = tt
 
@@ -42,7 +42,7 @@ unstarted_run world order run first graph none readable phases =
     record {
       graph = graph;
       lawful = subst (Lawful setting) (sym none) (lawful_none setting);
-      answered = subst (Answered world.answer) (sym none) (no_answers world);
+      answered = subst (Answered world.compiler) (sym none) (no_answers world);
       readable = readable;
       acknowledged = 0;
       phases = subst (λ (more : List Record). HasPhases world.records_of order.clean 0 more first run.later) (sym nothing) phases;

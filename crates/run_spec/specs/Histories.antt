@@ -1,4 +1,4 @@
--- Histories of a project's disk: runs of the program, edits of the sources, and stops inside runs, as plain data.
+-- What a run of the program does, as plain data: to the disk of its project, and to compilers; and what a stop inside it leaves.
 use Rattle.std.specs.Prelude.{◌≡◌, ◌⊎◌, ℕ, Bool, false, if◌then◌else◌, List, [], ◌∷◌, ◌++◌, length, Option, Some, None}
 use Rattle.std.specs.List.{AllByRecursion}
 use Rattle.base.specs.declared.file.FileName.{FileName}
@@ -12,10 +12,10 @@ use Rattle.base.specs.Graphs.{IsGraph}
 use Rattle.outside.specs.Records.{Record}
 use Rattle.outside.specs.Disks.{DiskState, Image, IsImage, IsWithin, reads_of}
 use Rattle.outside.specs.Records.{latest}
-use Rattle.outside.specs.Commits.{last_state}
 use Rattle.outside.specs.Phases.{HasPhases}
 use Rattle.run_spec.specs.ChildJournal.{Work, Lawful, Answered}
 use Rattle.run_spec.specs.Commits.{work_of, commits, Waits}
+use Rattle.run_spec.specs.TestJournal.{TestPlan}
 
 -- the files of a project folder, each path with its bytes, and the paths that the folder lists
 pub record Sources : Type 0 where
@@ -30,33 +30,23 @@ pub record Order : Type 0 where
   pub keep_going : Bool
   pub clean : Bool
 
--- what stays the same in a history: the compiler, the records that an image holds, and the order that words and sources
--- give, if any
+-- What stays the same in a history: the compiler, as a function of its requests; the records that an image holds; and the order
+-- and the plan of tests that words and sources give, if any. Of simulators nothing stays the same.
 pub record World : Type 0 where
-  pub answer : Request → Exit
+  pub compiler : Request → Exit
   pub records_of : Image → List Record
   pub reading : List (List ℕ) → Sources → Option Order
+  pub plan : List (List ℕ) → Sources → Option TestPlan
 
--- a run: its words, its answer, whether its disk failed, the events of its compilers, and the moments of its disk after
--- the one that it began at
+-- a run: its words, its answer, whether its disk failed, the events of its compilers and those of its tests, which come after
+-- them, and the moments of its disk after the one that it began at
 pub record ProgramRun : Type 0 where
   pub words : List (List ℕ)
   pub outcome : Outcome
   pub disk_failed : Bool
   pub events : List Event
+  pub tests : List Event
   pub later : List DiskState
-
--- a stop of a run: the events so far, the moment of the disk that it came at, and the disk that the next run finds
-pub record Stop : Type 0 where
-  pub events : List Event
-  pub moment : DiskState
-  pub disk : DiskState
-
--- the sources are edited; the program runs; or it runs and is stopped
-pub data HistoryStep : Type 0 where
-  Edited : Sources → HistoryStep
-  Ran : ProgramRun → HistoryStep
-  Stopped : ProgramRun → Stop → HistoryStep
 
 -- the image of an empty disk: neither side has a byte
 abbrev pub empty_image : Image
@@ -78,13 +68,6 @@ pub record IsMoment (moment first : DiskState) (later : List DiskState) : Type 0
   pub after : List DiskState
   pub parts : first ∷ later ≡ before ++ moment ∷ after
 
--- a stop comes at a moment of a run, and leaves a prefix of its events
-pub record IsStop (first : DiskState) (run : ProgramRun) (stop : Stop) : Type 0 where
-  pub rest : List Event
-  pub prefix : run.events ≡ stop.events ++ rest
-  pub moment : IsMoment stop.moment first run.later
-  pub left : IsLeft stop.moment stop.disk
-
 -- the latest record of each name that a build goes by, as reads of the disk give it; none where all is built anew
 abbrev pub latest_over : (Image → List Record) → (clean : Bool) → DiskState → FileName → Option Record
 latest_over records_of clean disk name = if clean then None else latest name (records_of (reads_of disk))
@@ -99,7 +82,7 @@ work_over records_of order disk = work_of (latest_over records_of order.clean di
 pub record IsBuildRun (world : World) (order : Order) (run : ProgramRun) (first : DiskState) : Type 0 where
   pub graph : IsGraph order.graph
   pub lawful : Lawful (work_over world.records_of order first) run.events
-  pub answered : Answered world.answer run.events
+  pub answered : Answered world.compiler run.events
   pub readable : AllByRecursion IsReadable run.later
   pub acknowledged : ℕ
   pub phases : HasPhases world.records_of order.clean acknowledged (commits (work_over world.records_of order first) run.events) first run.later
@@ -116,10 +99,3 @@ pub record IsIdleRun (run : ProgramRun) : Type 0 where
 abbrev pub RunStep : World → Option Order → ProgramRun → DiskState → Type 0
 RunStep world None run first = IsIdleRun run
 RunStep world (Some order) run first = IsIdleRun run ⊎ IsBuildRun world order run first
-
--- steps from these sources and this disk on
-unfoldable pub IsHistory : World → Sources → DiskState → List HistoryStep → Type 0
-IsHistory world sources disk [] = Unit {0}
-IsHistory world sources disk (Edited new ∷ steps) = IsHistory world new disk steps
-IsHistory world sources disk (Ran run ∷ steps) = RunStep world (world.reading run.words sources) run disk × IsHistory world sources (last_state disk run.later) steps
-IsHistory world sources disk (Stopped run stop ∷ steps) = RunStep world (world.reading run.words sources) run disk × IsStop disk run stop × IsHistory world sources stop.disk steps

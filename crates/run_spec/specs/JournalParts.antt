@@ -1,6 +1,7 @@
 -- The two parts of a journal: the events of compilers, and those of tests.
-use Rattle.std.specs.Prelude.{Bool, true, false, not, List, filter, Option, Some, None}
+use Rattle.std.specs.Prelude.{◌≡◌, Bool, true, false, not, List, filter, Option, Some, None}
 use Rattle.base.specs.declared.child.Request.{Request}
+use Rattle.base.specs.declared.child.Exit.{Exit}
 use Rattle.base.specs.declared.child.MaybeText.{MaybeText}
 use Rattle.base.specs.declared.child.MaybeText.TheVariants.{Nothing, Given}
 use Rattle.base.specs.declared.child.Event.{Event}
@@ -30,3 +31,8 @@ compile_part journal = filter (λ event. not (is_test_event journal event)) jour
 -- the events of tests, in order
 abbrev pub test_part : List Event → List Event
 test_part journal = filter (is_test_event journal) journal
+
+-- Children that answer so have this compiler: they answer each request without a path for results as it does. What they answer
+-- as simulators is free.
+abbrev pub IsCompilerOf : (compiler answer : Request → Exit) → Type 0
+IsCompilerOf compiler answer = (request : Request) → is_given request.results ≡ false → answer request ≡ compiler request

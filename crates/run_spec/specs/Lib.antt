@@ -9,7 +9,7 @@ pub mod Statuses
 pub mod Recorded
 pub mod Faithful
 pub mod Commits
+pub mod TestJournal
 pub mod Histories
 pub mod Steps
 pub mod Faults
-pub mod TestJournal

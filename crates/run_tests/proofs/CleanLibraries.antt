@@ -67,7 +67,7 @@ module _ (answer : Request → Exit) (work : Work) (is : IsGraph work.graph) (re
 
 -- a world of this compiler, over these records
 abbrev world_of : (Request → Exit) → (Image → List Record) → World
-world_of answer records_of = record { answer = answer; records_of = records_of; reading = λ words sources. None }
+world_of answer records_of = record { compiler = answer; records_of = records_of; reading = λ words sources. None; plan = λ words sources. None }
 
 -- from a disk of true records tests start over these libraries
 pub tests_clean : (records_of : Image → List Record) (answer : Request → Exit) (order : Order) (plan : TestPlan) (result : Result Tested RunFault) (failed : Bool) (old new : Moments) (events : List Event) → IsReadable old.now →

@@ -9,4 +9,5 @@ mod BothParts
 mod TestsAfter
 pub mod CleanLibraries
 pub mod TestedRights
+pub mod HistorySteps
 pub mod TestsEnded

@@ -1,8 +1,5 @@
--- The tests of each run of a history are right: by induction on the steps, over one lemma on the tests of a run.
-use Rattle.std.proofs.Common.{◌≡◌, List, [], ◌∷◌, ◌++◌, Option, Some, None, refl, sym, subst, ◌∙◌, inl, inr, arith}
-use Rattle.std.specs.Prelude.{All}
-use Rattle.std.specs.List.{AllByRecursion}
-use Rattle.std.proofs.lemmas.List.Elements.{All-nil}
+-- The tests of a run from a disk of true records are right.
+use Rattle.std.proofs.Common.{◌≡◌, List, [], ◌∷◌, ◌++◌, Option, Some, None, refl, sym, subst, ◌∙◌, inl, inr}
 use Rattle.std.proofs.lemmas.Option.{option_and_then_some}
 use Rattle.base.specs.declared.graph.BuiltFile.{BuiltFile}
 use Rattle.base.specs.declared.child.Request.{Request}
@@ -11,23 +8,19 @@ use Rattle.base.specs.declared.child.Event.{Event}
 use Rattle.base.specs.declared.child.Event.TheVariants.{Started}
 use Rattle.base.specs.Graphs.{IsGraph}
 use Rattle.outside.specs.Records.{Record}
-use Rattle.outside.specs.Disks.{DiskState, Image, IsSoundSide, settled, settled_disk}
-use Rattle.outside.specs.Commits.{last_state}
-use Rattle.outside.proofs.ImageLaws.{settled_sound, settled_disk_only}
-use Rattle.outside.proofs.MomentLaws.{all_last}
+use Rattle.outside.specs.Disks.{DiskState, Image}
 use Rattle.run_spec.specs.Moves.{SchedulerState, empty_schedule, after_move, LawfulMoves}
 use Rattle.run_spec.specs.ChildJournal.{Work, EachAfter, HasFreshTicket, Lawful, Answered}
-use Rattle.run_spec.specs.Faithful.{IsTrueRecord, IsFaithful, IsFaithfulDisk}
+use Rattle.run_spec.specs.Faithful.{IsFaithfulDisk}
 use Rattle.run_spec.proofs.Prefixes.{lawful_none}
-use Rattle.run_spec.specs.Histories.{Sources, Order, World, ProgramRun, IsIdleRun, RunStep, IsReadable, empty_image, work_over}
-use Rattle.run_laws.proofs.Moments.{at_moment, on_left}
-use Rattle.run_laws.proofs.RightRuns.{idle_moments, run_clean, run_readable, run_right}
+use Rattle.run_spec.specs.Histories.{Sources, Order, World, ProgramRun, IsIdleRun, RunStep, IsReadable, work_over}
+use Rattle.run_laws.proofs.RightRuns.{run_clean, run_right}
 use Rattle.run_build.specs.Ran.{built_by}
 use Rattle.run_spec.specs.TestJournal.{TestPlan, TestSetting, TestProgress, LawfulTests, AreTestsRequested, IsTestRequested, after_test, after_tests, progress_of_tests, empty_tests, next_run, test_workload, test_move, test_moves, test_request_at}
 use Rattle.run_tests.specs.Libraries.{libraries}
 use Rattle.run_tests.proofs.CleanLibraries.{built_clean}
-use Rattle.run_tests.specs.Histories.{TestedWorld, TestedRun, TestedStep, Edited, Ran, Stopped, HasTested, IsTestedHistory, TestedRunStep, TestsStep}
-use Rattle.run_tests.specs.Rights.{AllTestedRight, AreRightTests, IsRightTestedStep, IsRightTesting, clean_setting}
+use Rattle.run_tests.specs.Histories.{HasTested, IsRun, TestsStep}
+use Rattle.run_tests.specs.Rights.{AreRightTests, IsRight, IsRightTesting, clean_setting}
 
 -- no event is before the first
 nothing_before : (before rest : List Event) → [] ≡ before ++ rest → before ≡ []
@@ -73,9 +66,9 @@ requested_at setting progress [] y ys requested = requested.0
 requested_at setting progress (x ∷ xs) y ys requested = requested_at setting (after_test setting progress x) xs y ys requested.1
 
 -- tests that are lawful over the libraries of a clean build are right
-pub lawful_right : (answer : Request → Exit) (order : Order) (plan : TestPlan) (tests : List Event) → LawfulTests (clean_setting answer order plan) tests → AreRightTests answer order plan tests
-lawful_right answer order plan tests lawful =
-    let setting : TestSetting = clean_setting answer order plan in
+pub lawful_right : (compiler : Request → Exit) (order : Order) (plan : TestPlan) (tests : List Event) → LawfulTests (clean_setting compiler order plan) tests → AreRightTests compiler order plan tests
+lawful_right compiler order plan tests lawful =
+    let setting : TestSetting = clean_setting compiler order plan in
     record {
       lawful = λ before rest e. tests_prefix setting before rest (subst (LawfulTests setting) e lawful);
       asked = λ before rest ticket request e.
@@ -85,102 +78,60 @@ lawful_right answer order plan tests lawful =
     }
 
 -- what a stop leaves of right tests is right
-pub stop_right : (answer : Request → Exit) (order : Option Order) (plan : Option TestPlan) (tests before rest : List Event) → tests ≡ before ++ rest → IsRightTesting answer order plan tests → IsRightTesting answer order plan before
-stop_right answer None plan tests before rest e none = nothing_before before rest (sym none ∙ e)
-stop_right answer (Some order) None tests before rest e none = nothing_before before rest (sym none ∙ e)
-stop_right answer (Some order) (Some plan) tests before rest e right = lawful_right answer order plan before (right.lawful before rest e)
+pub stop_right : (compiler : Request → Exit) (order : Option Order) (plan : Option TestPlan) (tests before rest : List Event) → tests ≡ before ++ rest → IsRightTesting compiler order plan tests → IsRightTesting compiler order plan before
+stop_right compiler None plan tests before rest e none = nothing_before before rest (sym none ∙ e)
+stop_right compiler (Some order) None tests before rest e none = nothing_before before rest (sym none ∙ e)
+stop_right compiler (Some order) (Some plan) tests before rest e right = lawful_right compiler order plan before (right.lawful before rest e)
 
 -- a world of this compiler, over these records
 abbrev world_of : (Request → Exit) → (Image → List Record) → World
-world_of answer records_of = record { answer = answer; records_of = records_of; reading = λ words sources. None }
+world_of compiler records_of = record { compiler = compiler; records_of = records_of; reading = λ words sources. None; plan = λ words sources. None }
 
 -- from a disk of true records the tests that follow a lawful build are lawful over the libraries of a clean build
-tests_lawful : (answer : Request → Exit) (records_of : Image → List Record) (order : Order) (plan : TestPlan) (first : DiskState) (compiled tests : List Event) → IsReadable first → IsFaithfulDisk answer records_of first → IsGraph order.graph →
-    Lawful (work_over records_of order first) compiled → Answered answer compiled → HasTested answer order plan (work_over records_of order first) compiled tests → LawfulTests (clean_setting answer order plan) tests
-tests_lawful answer records_of order plan first compiled [] readable faithful graph lawful answered tested = no_tests (clean_setting answer order plan)
-tests_lawful answer records_of order plan first compiled (event ∷ tests) readable faithful graph lawful answered tested =
+tests_lawful : (compiler : Request → Exit) (records_of : Image → List Record) (order : Order) (plan : TestPlan) (first : DiskState) (compiled tests : List Event) → IsReadable first → IsFaithfulDisk compiler records_of first → IsGraph order.graph →
+    Lawful (work_over records_of order first) compiled → Answered compiler compiled → HasTested order plan (work_over records_of order first) compiled tests → LawfulTests (clean_setting compiler order plan) tests
+tests_lawful compiler records_of order plan first compiled [] readable faithful graph lawful answered tested = no_tests (clean_setting compiler order plan)
+tests_lawful compiler records_of order plan first compiled (event ∷ tests) readable faithful graph lawful answered tested =
     let work : Work = work_over records_of order first in
-    let built : built_by work compiled ≡ libraries answer order.graph =
-    built_clean answer work graph (run_clean (world_of answer records_of) order first graph readable faithful) compiled lawful answered (tested.made (not_empty event tests)) in
+    let built : built_by work compiled ≡ libraries compiler order.graph =
+    built_clean compiler work graph (run_clean (world_of compiler records_of) order first graph readable faithful) compiled lawful answered (tested.made (not_empty event tests)) in
     subst (λ (files : List BuiltFile). LawfulTests (record { plan = plan; built = files; slots = order.slots }) (event ∷ tests)) built tested.lawful
 
 -- so they are right
-pub tests_right : (answer : Request → Exit) (records_of : Image → List Record) (order : Order) (plan : TestPlan) (first : DiskState) (compiled tests : List Event) → IsReadable first → IsFaithfulDisk answer records_of first → IsGraph order.graph →
-    Lawful (work_over records_of order first) compiled → Answered answer compiled → HasTested answer order plan (work_over records_of order first) compiled tests → AreRightTests answer order plan tests
-tests_right answer records_of order plan first compiled tests readable faithful graph lawful answered tested =
-    lawful_right answer order plan tests (tests_lawful answer records_of order plan first compiled tests readable faithful graph lawful answered tested)
+pub tests_right : (compiler : Request → Exit) (records_of : Image → List Record) (order : Order) (plan : TestPlan) (first : DiskState) (compiled tests : List Event) → IsReadable first → IsFaithfulDisk compiler records_of first → IsGraph order.graph →
+    Lawful (work_over records_of order first) compiled → Answered compiler compiled → HasTested order plan (work_over records_of order first) compiled tests → AreRightTests compiler order plan tests
+tests_right compiler records_of order plan first compiled tests readable faithful graph lawful answered tested =
+    lawful_right compiler order plan tests (tests_lawful compiler records_of order plan first compiled tests readable faithful graph lawful answered tested)
 
 -- a build without events holds the answers
-nothing_answered : (answer : Request → Exit) → Answered answer []
+nothing_answered : (compiler : Request → Exit) → Answered compiler []
 unfolding EachAfter
-nothing_answered answer = tt
+nothing_answered compiler = tt
 
-module _ (tested_world : TestedWorld) where
-  abbrev world : World
-  world = tested_world.world
-
+module _ (world : World) where
   abbrev Faithful : DiskState → Type 0
-  Faithful disk = IsFaithfulDisk world.answer world.records_of disk
+  Faithful disk = IsFaithfulDisk world.compiler world.records_of disk
 
   -- tests of a run that started no compiler are right
-  idle_tests : (order : Order) (plan : TestPlan) (run : ProgramRun) (tests : List Event) (first : DiskState) → IsReadable first → Faithful first → IsIdleRun run →
-      HasTested world.answer order plan (work_over world.records_of order first) run.events tests → AreRightTests world.answer order plan tests
-  idle_tests order plan run [] first readable faithful idle tested = lawful_right world.answer order plan [] (no_tests (clean_setting world.answer order plan))
-  idle_tests order plan run (event ∷ tests) first readable faithful idle tested =
+  idle_tests : (order : Order) (plan : TestPlan) (run : ProgramRun) (first : DiskState) → IsReadable first → Faithful first → IsIdleRun run → (tests : List Event) →
+      HasTested order plan (work_over world.records_of order first) run.events tests → AreRightTests world.compiler order plan tests
+  idle_tests order plan run first readable faithful idle [] tested = lawful_right world.compiler order plan [] (no_tests (clean_setting world.compiler order plan))
+  idle_tests order plan run first readable faithful idle (event ∷ tests) tested =
       let work : Work = work_over world.records_of order first in
-      tests_right world.answer world.records_of order plan first run.events (event ∷ tests) readable faithful (tested.graph (not_empty event tests))
-      (subst (Lawful work) (sym idle.events) (lawful_none work)) (subst (Answered world.answer) (sym idle.events) (nothing_answered world.answer)) tested
+      tests_right world.compiler world.records_of order plan first run.events (event ∷ tests) readable faithful (tested.graph (not_empty event tests))
+      (subst (Lawful work) (sym idle.events) (lawful_none work)) (subst (Answered world.compiler) (sym idle.events) (nothing_answered world.compiler)) tested
 
   -- the tests of a run are right
-  pub testing_right : (order : Option Order) (plan : Option TestPlan) (run : ProgramRun) (tests : List Event) (first : DiskState) → IsReadable first → Faithful first → RunStep world order run first →
-      TestsStep world.answer world.records_of order plan run.events tests first → IsRightTesting world.answer order plan tests
-  testing_right None plan run tests first readable faithful step none = none
-  testing_right (Some order) None run tests first readable faithful step none = none
-  testing_right (Some order) (Some plan) run tests first readable faithful (inl idle) tested = idle_tests order plan run tests first readable faithful idle tested
-  testing_right (Some order) (Some plan) run tests first readable faithful (inr build) tested =
-      tests_right world.answer world.records_of order plan first run.events tests readable faithful build.graph build.lawful build.answered tested
+  testing_right : (order : Option Order) (plan : Option TestPlan) (run : ProgramRun) (first : DiskState) → IsReadable first → Faithful first → RunStep world order run first →
+      TestsStep world.records_of order plan run.events run.tests first → IsRightTesting world.compiler order plan run.tests
+  testing_right None plan run first readable faithful step none = none
+  testing_right (Some order) None run first readable faithful step none = none
+  testing_right (Some order) (Some plan) run first readable faithful (inl idle) tested = idle_tests order plan run first readable faithful idle run.tests tested
+  testing_right (Some order) (Some plan) run first readable faithful (inr build) tested =
+      tests_right world.compiler world.records_of order plan first run.events run.tests readable faithful build.graph build.lawful build.answered tested
 
   -- a run is right with its tests
-  pub tested_right : (sources : Sources) (tested : TestedRun) (first : DiskState) → IsReadable first → Faithful first → TestedRunStep tested_world sources tested first → IsRightTestedStep tested_world sources tested first
-  tested_right sources tested first readable faithful step =
-      let order : Option Order = world.reading tested.run.words sources in (
-        run_right world order tested.run first readable faithful step.0,
-        testing_right order (tested_world.plan tested.run.words sources) tested.run tested.tests first readable faithful step.0 step.1,
-      )
-
-  -- each of its moments has true records alone
-  run_faithful : (order : Option Order) (run : ProgramRun) (first : DiskState) → IsReadable first → Faithful first → RunStep world order run first → AllByRecursion Faithful (first ∷ run.later)
-  run_faithful None run first readable faithful idle = idle_moments world Faithful run first idle faithful
-  run_faithful (Some order) run first readable faithful step = (run_right world (Some order) run first readable faithful step).faithful
-
-  -- each run of a history is right with its tests
-  pub all_tested_right : (steps : List TestedStep) (sources : Sources) (disk : DiskState) → IsReadable disk → Faithful disk → IsTestedHistory tested_world sources disk steps → AllTestedRight tested_world sources disk steps
-  unfolding IsTestedHistory AllTestedRight
-  all_tested_right [] sources disk readable faithful history = faithful
-  all_tested_right (Edited new ∷ steps) sources disk readable faithful history = all_tested_right steps new disk readable faithful history
-  all_tested_right (Ran tested ∷ steps) sources disk readable faithful history =
-      let run : ProgramRun = tested.run in
-      let order : Option Order = world.reading run.words sources in (
-        tested_right sources tested disk readable faithful history.0,
-        all_tested_right steps sources (last_state disk run.later) (all_last IsReadable disk run.later (run_readable world order run disk readable history.0.0))
-            (all_last Faithful disk run.later (run_faithful order run disk readable faithful history.0.0)) history.1,
-      )
-  all_tested_right (Stopped tested stopped ∷ steps) sources disk readable faithful history =
-      let run : ProgramRun = tested.run in
+  pub tested_right : (sources : Sources) (run : ProgramRun) (first : DiskState) → IsReadable first → Faithful first → IsRun world sources run first → IsRight world sources run first
+  tested_right sources run first readable faithful step =
       let order : Option Order = world.reading run.words sources in
-      let right : IsRightTestedStep tested_world sources tested disk = tested_right sources tested disk readable faithful history.0 in (
-        right,
-        stop_right world.answer order (tested_world.plan run.words sources) tested.tests stopped.tests history.1.rest history.1.prefix right.1,
-        all_tested_right steps sources stopped.stop.disk history.1.build.left.readable
-            (on_left (IsFaithful world.answer world.records_of) stopped.stop.moment stopped.stop.disk history.1.build.left
-            (at_moment Faithful stopped.stop.moment disk run.later history.1.build.moment (run_faithful order run disk readable faithful history.0.0))) history.2,
-      )
-
-  -- also from an empty disk, of which nothing was recorded
-  pub all_tested_right_from_empty : (steps : List TestedStep) (sources : Sources) → world.records_of empty_image ≡ [] → IsTestedHistory tested_world sources (settled_disk empty_image) steps →
-      AllTestedRight tested_world sources (settled_disk empty_image) steps
-  all_tested_right_from_empty steps sources none history =
-      let side : IsSoundSide (settled []) = settled_sound [] (omega arith) in
-      all_tested_right steps sources (settled_disk empty_image) (record { a = side.image; b = side.image })
-      (λ image is. subst (IsFaithful world.answer world.records_of) (sym (settled_disk_only empty_image image is))
-      (subst (All (IsTrueRecord world.answer)) (sym none) (All-nil (IsTrueRecord world.answer)))) history
+      (run_right world order run first readable faithful step.0, testing_right order (world.plan run.words sources) run first readable faithful step.0 step.1)

@@ -1,76 +1,79 @@
--- Histories of a project's disk whose runs also run tests, as plain data.
+-- Histories of a project's disk: runs of the program with their tests, edits of the sources, and stops inside runs, as plain data.
 use Rattle.std.specs.Prelude.{◌≡◌, ℕ, true, List, [], ◌∷◌, ◌++◌, Option, Some, None}
 use Rattle.std.specs.List.{list_all}
-use Rattle.base.specs.declared.child.Request.{Request}
-use Rattle.base.specs.declared.child.Exit.{Exit}
 use Rattle.base.specs.declared.child.Event.{Event}
 use Rattle.base.specs.Graphs.{IsGraph}
 use Rattle.outside.specs.Records.{Record}
 use Rattle.outside.specs.Disks.{DiskState, Image}
 use Rattle.outside.specs.Commits.{last_state}
-use Rattle.run_spec.specs.ChildJournal.{Work, Answered}
+use Rattle.run_spec.specs.ChildJournal.{Work}
 use Rattle.run_spec.specs.Statuses.{statuses_of}
-use Rattle.run_spec.specs.Histories.{Sources, Order, World, ProgramRun, Stop, IsStop, RunStep, work_over}
+use Rattle.run_spec.specs.Histories.{Sources, Order, World, ProgramRun, IsMoment, IsLeft, RunStep, work_over}
 use Rattle.run_build.specs.Ran.{is_made}
 use Rattle.run_spec.specs.TestJournal.{TestPlan, LawfulTests}
 use Rattle.run_tests.specs.Tested.{setting_after}
 
--- what stays the same in a history: what does so in one of builds alone, and the tests that words and sources say are to
--- be run after the build, if any
-pub record TestedWorld : Type 0 where
-  pub world : World
-  pub plan : List (List ℕ) → Sources → Option TestPlan
-
--- a run of the program, and the events of its tests, which came after those of its compilers
-pub record TestedRun : Type 0 where
-  pub run : ProgramRun
+-- a stop of a run: the events of its compilers and of its tests so far, the moment of the disk that it came at, and the disk
+-- that the next run finds
+pub record Stop : Type 0 where
+  pub events : List Event
   pub tests : List Event
-
--- a stop of a run, and the events of its tests so far
-pub record TestedStop : Type 0 where
-  pub stop : Stop
-  pub tests : List Event
+  pub moment : DiskState
+  pub disk : DiskState
 
 -- the sources are edited; the program runs; or it runs and is stopped
-pub data TestedStep : Type 0 where
-  Edited : Sources → TestedStep
-  Ran : TestedRun → TestedStep
-  Stopped : TestedRun → TestedStop → TestedStep
+pub data HistoryStep : Type 0 where
+  Edited : Sources → HistoryStep
+  Ran : ProgramRun → HistoryStep
+  Stopped : ProgramRun → Stop → HistoryStep
 
 -- The tests of a run whose build worked on this, had these events, and was to be followed by tests of a plan: none where the
--- order's files aren't a graph or a file isn't made; lawful runs over exactly what was built; and each end is the answer to
--- its start.
-pub record HasTested (answer : Request → Exit) (order : Order) (plan : TestPlan) (work : Work) (compiled tests : List Event) : Type 0 where
+-- order's files aren't a graph or a file isn't made; and lawful runs over exactly what was built. What simulators answered is free.
+pub record HasTested (order : Order) (plan : TestPlan) (work : Work) (compiled tests : List Event) : Type 0 where
   pub graph : (tests ≡ [] → ⊥) → IsGraph order.graph
   pub made : (tests ≡ [] → ⊥) → list_all is_made (statuses_of work compiled) ≡ true
   pub lawful : LawfulTests (setting_after order plan work compiled) tests
-  pub answered : Answered answer tests
 
 -- What the tests of a run did over the disk that its build found. There are none where words and sources give no order or
 -- no plan.
-abbrev pub TestsStep : (answer : Request → Exit) (records_of : Image → List Record) → Option Order → Option TestPlan → (compiled tests : List Event) → DiskState → Type 0
-TestsStep answer records_of None plan compiled tests first = tests ≡ []
-TestsStep answer records_of (Some order) None compiled tests first = tests ≡ []
-TestsStep answer records_of (Some order) (Some plan) compiled tests first = HasTested answer order plan (work_over records_of order first) compiled tests
+abbrev pub TestsStep : (records_of : Image → List Record) → Option Order → Option TestPlan → (compiled tests : List Event) → DiskState → Type 0
+TestsStep records_of None plan compiled tests first = tests ≡ []
+TestsStep records_of (Some order) None compiled tests first = tests ≡ []
+TestsStep records_of (Some order) (Some plan) compiled tests first = HasTested order plan (work_over records_of order first) compiled tests
 
--- what a run did with compilers and with tests
-abbrev pub TestedRunStep : TestedWorld → Sources → TestedRun → DiskState → Type 0
-TestedRunStep world sources tested first =
-    RunStep world.world (world.world.reading tested.run.words sources) tested.run first
-    × TestsStep world.world.answer world.world.records_of (world.world.reading tested.run.words sources) (world.plan tested.run.words sources) tested.run.events tested.tests first
+-- what a run did with compilers and with tests, by what its words and the sources give
+abbrev pub IsRun : World → Sources → ProgramRun → DiskState → Type 0
+IsRun world sources run first =
+    RunStep world (world.reading run.words sources) run first
+    × TestsStep world.records_of (world.reading run.words sources) (world.plan run.words sources) run.events run.tests first
 
 -- A stop comes at a moment of a run, and leaves a prefix of its events: no test where some event of a compiler is missing.
-pub record IsTestedStop (first : DiskState) (tested : TestedRun) (stopped : TestedStop) : Type 0 where
-  pub build : IsStop first tested.run stopped.stop
+pub record IsStop (first : DiskState) (run : ProgramRun) (stop : Stop) : Type 0 where
   pub rest : List Event
-  pub prefix : tested.tests ≡ stopped.tests ++ rest
-  pub parted : (stopped.tests ≡ [] → ⊥) → stopped.stop.events ≡ tested.run.events
+  pub prefix : run.events ≡ stop.events ++ rest
+  pub more : List Event
+  pub tested : run.tests ≡ stop.tests ++ more
+  pub parted : (stop.tests ≡ [] → ⊥) → stop.events ≡ run.events
+  pub moment : IsMoment stop.moment first run.later
+  pub left : IsLeft stop.moment stop.disk
 
 -- steps from these sources and this disk on
-unfoldable pub IsTestedHistory : TestedWorld → Sources → DiskState → List TestedStep → Type 0
-IsTestedHistory world sources disk [] = Unit {0}
-IsTestedHistory world sources disk (Edited new ∷ steps) = IsTestedHistory world new disk steps
-IsTestedHistory world sources disk (Ran tested ∷ steps) =
-    TestedRunStep world sources tested disk × IsTestedHistory world sources (last_state disk tested.run.later) steps
-IsTestedHistory world sources disk (Stopped tested stopped ∷ steps) =
-    TestedRunStep world sources tested disk × IsTestedStop disk tested stopped × IsTestedHistory world sources stopped.stop.disk steps
+unfoldable pub IsHistory : World → Sources → DiskState → List HistoryStep → Type 0
+IsHistory world sources disk [] = Unit {0}
+IsHistory world sources disk (Edited new ∷ steps) = IsHistory world new disk steps
+IsHistory world sources disk (Ran run ∷ steps) = IsRun world sources run disk × IsHistory world sources (last_state disk run.later) steps
+IsHistory world sources disk (Stopped run stop ∷ steps) = IsRun world sources run disk × IsStop disk run stop × IsHistory world sources stop.disk steps
+
+-- the sources after steps
+unfoldable pub sources_after : Sources → List HistoryStep → Sources
+sources_after sources [] = sources
+sources_after sources (Edited new ∷ steps) = sources_after new steps
+sources_after sources (Ran run ∷ steps) = sources_after sources steps
+sources_after sources (Stopped run stop ∷ steps) = sources_after sources steps
+
+-- the disk after steps
+unfoldable pub disk_after : DiskState → List HistoryStep → DiskState
+disk_after disk [] = disk
+disk_after disk (Edited new ∷ steps) = disk_after disk steps
+disk_after disk (Ran run ∷ steps) = disk_after (last_state disk run.later) steps
+disk_after disk (Stopped run stop ∷ steps) = disk_after stop.disk steps

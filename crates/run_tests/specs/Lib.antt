@@ -7,3 +7,4 @@ pub mod Tested
 pub mod Libraries
 pub mod Histories
 pub mod Rights
+pub mod Spares

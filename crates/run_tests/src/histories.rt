@@ -1,38 +1,70 @@
-//! The laws of histories with tests, as a function with an empty body: a caller cites one by calling it.
+//! The laws of histories, as functions with an empty body: a caller cites one by calling it.
 
-ghost use Rattle.std.specs.Prelude.{◌≡◌, [], List};
+ghost use Rattle.std.specs.Prelude.{◌≡◌, ◌⊎◌, ◌↔◌, [], ◌∷◌, ◌++◌, false, List, Some};
+ghost use Rattle.base.specs.declared.file.FileName.{FileName};
 ghost use Rattle.base.specs.declared.child.Request.{Request};
 ghost use Rattle.base.specs.declared.child.Exit.{Exit};
 ghost use Rattle.base.specs.declared.child.Event.{Event};
 ghost use Rattle.base.specs.Graphs.{IsGraph};
-ghost use Rattle.outside.specs.Records.{Record};
-ghost use Rattle.outside.specs.Disks.{DiskState, Image, settled_disk};
+ghost use Rattle.outside.specs.Records.{Record, latest};
+ghost use Rattle.outside.specs.Disks.{DiskState, Image, reads_of, settled_disk};
 ghost use Rattle.run_spec.specs.ChildJournal.{Lawful, Answered};
 ghost use Rattle.run_spec.specs.Faithful.{IsFaithfulDisk};
-ghost use Rattle.run_spec.specs.Histories.{Order, Sources, IsReadable, empty_image, work_over};
+ghost use Rattle.run_spec.specs.Histories.{Order, World, ProgramRun, Sources, IsMoment, IsReadable, empty_image, work_over};
 ghost use Rattle.run_spec.specs.TestJournal.{TestPlan};
-ghost use Rattle.run_tests.specs.Histories.{TestedWorld, TestedStep, HasTested, IsTestedHistory};
-ghost use Rattle.run_tests.specs.Rights.{AreRightTests, AllTestedRight};
+ghost use Rattle.run_laws.specs.Spares.{IsAcknowledged, HasFileAsked};
+ghost use Rattle.run_tests.specs.Histories.{Stop, HistoryStep, Stopped, HasTested, IsHistory, disk_after, sources_after};
+ghost use Rattle.run_tests.specs.Rights.{AreRightTests, AllRight};
+ghost use Rattle.run_tests.specs.Spares.{AllSpare};
 
-/// What holds of every history of runs with tests, edits of the sources, and stops by a loss of power or a kill of the
-/// program, with any number of children at once.
-pub fn laws_of_tested_histories()
-    // From a disk that holds true records alone, each run is right with its tests: each start of a test, also in a run that
-    // is stopped, is over the libraries of a clean build of the sources of its run.
-    ensures right { (world : TestedWorld) (sources : Sources) (disk : DiskState)
-        (steps : List TestedStep) → IsReadable disk →
-        IsFaithfulDisk world.world.answer world.world.records_of disk →
-        IsTestedHistory world sources disk steps → AllTestedRight world sources disk steps }
+/// What holds of every history of runs with their tests, edits of the sources, and stops by a loss of power or a kill of the
+/// program, with any number of children at once. The compiler is one function of its requests; simulators may answer anything.
+pub fn laws_of_histories()
+    // From a disk that holds true records alone, each run is right with its tests: whatever a stop can leave has true records
+    // alone, each compiler is asked what a clean build of the sources of its run asks it, and each start of a test, also in a
+    // run that is stopped, is over the libraries of that clean build.
+    ensures right { (world : World) (sources : Sources) (disk : DiskState)
+        (steps : List HistoryStep) → IsReadable disk →
+        IsFaithfulDisk world.compiler world.records_of disk →
+        IsHistory world sources disk steps → AllRight world sources disk steps }
     // So it is from an empty disk.
-    ensures from_empty { (world : TestedWorld) (sources : Sources) (steps : List TestedStep) →
-        world.world.records_of empty_image ≡ [] →
-        IsTestedHistory world sources (settled_disk empty_image) steps →
-        AllTestedRight world sources (settled_disk empty_image) steps }
+    ensures from_empty { (world : World) (sources : Sources) (steps : List HistoryStep) →
+        world.records_of empty_image ≡ [] →
+        IsHistory world sources (settled_disk empty_image) steps →
+        AllRight world sources (settled_disk empty_image) steps }
+    // Whatever its records say, no run starts a file of which is asked what its acknowledged record has.
+    ensures spares { (world : World) (sources : Sources) (disk : DiskState)
+        (steps : List HistoryStep) (name : FileName) (kept : Record) → IsReadable disk →
+        IsAcknowledged world name kept disk →
+        IsHistory world sources disk steps → AllSpare world name kept sources disk steps }
+    // So it is after a stop, of each record that was acknowledged at its moment,
+    ensures stopped { (world : World) (sources : Sources) (disk : DiskState) (run : ProgramRun)
+        (stop : Stop) (steps : List HistoryStep) (name : FileName) (kept : Record) →
+        IsHistory world sources disk (Stopped run stop ∷ steps) →
+        IsAcknowledged world name kept stop.moment →
+        AllSpare world name kept sources stop.disk steps }
+    // or at an earlier one of its run; in a run that builds all anew, of those that reads didn't give before it.
+    ensures stopped_since { (world : World) (sources : Sources) (disk : DiskState)
+        (run : ProgramRun) (stop : Stop) (steps : List HistoryStep) (order : Order)
+        (name : FileName) (kept : Record) → IsReadable disk →
+        IsHistory world sources disk (Stopped run stop ∷ steps) →
+        world.reading run.words sources ≡ Some order →
+        HasFileAsked world order disk name kept.asked →
+        (order.clean ≡ false)
+        ⊎ (latest name (world.records_of (reads_of disk)) ≡ Some kept → ⊥) →
+        (moment : DiskState) (is : IsMoment moment disk run.later) →
+        IsAcknowledged world name kept moment → IsMoment stop.moment moment is.after →
+        AllSpare world name kept sources stop.disk steps }
+    // Steps after steps are a history where both are, the later ones from the sources and the disk that the earlier ones leave.
+    ensures joined { (world : World) (sources : Sources) (disk : DiskState)
+        (steps more : List HistoryStep) → IsHistory world sources disk (steps ++ more)
+        ↔ (IsHistory world sources disk steps
+        × IsHistory world (sources_after sources steps) (disk_after disk steps) more) }
     // Within one run: from a disk of true records the tests that follow a lawful build are right.
-    ensures tests { (answer : Request → Exit) (records_of : Image → List Record)
+    ensures tests { (compiler : Request → Exit) (records_of : Image → List Record)
         (order : Order) (plan : TestPlan) (first : DiskState) (compiled tests : List Event) →
-        IsReadable first → IsFaithfulDisk answer records_of first → IsGraph order.graph →
-        Lawful (work_over records_of order first) compiled → Answered answer compiled →
-        HasTested answer order plan (work_over records_of order first) compiled tests →
-        AreRightTests answer order plan tests }
+        IsReadable first → IsFaithfulDisk compiler records_of first → IsGraph order.graph →
+        Lawful (work_over records_of order first) compiled → Answered compiler compiled →
+        HasTested order plan (work_over records_of order first) compiled tests →
+        AreRightTests compiler order plan tests }
 {}

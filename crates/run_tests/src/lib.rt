@@ -16,6 +16,6 @@ mod starts;
 
 pub use announcing::announce_long_runs;
 pub use build_and_test::{Tested, test_over};
-pub use histories::laws_of_tested_histories;
+pub use histories::laws_of_histories;
 pub use laws::laws_of_libraries;
 pub use runs::run_tests;

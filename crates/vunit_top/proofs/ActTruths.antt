@@ -11,7 +11,7 @@ use Rattle.base_outcomes.specs.declared.outcome.Outcome.TheVariants as outcome
 use Rattle.base_outcomes.specs.declared.outcome.OutsideObject.TheVariants as which
 use Rattle.outside.specs.Disks.{Moments, AreSound}
 use Rattle.outside.specs.FaultCounts.{RunFaultCounts}
-use Rattle.run_spec.specs.ChildJournal.{EachAfter, since}
+use Rattle.run_spec.specs.ChildJournal.{Answered, EachAfter, since}
 use Rattle.run_spec.specs.JournalParts.{compile_part, test_part, is_given}
 use Rattle.run_spec.specs.Histories.{Order, work_over}
 use Rattle.run_spec.specs.declared.fault.RunFault.TheVariants as fault
@@ -33,7 +33,7 @@ use Rattle.vunit_top.specs.Ends.{StopCounts, Writes, WritesReport}
 use Rattle.project_reading.specs.declared.query.Query.{Query}
 use Rattle.vunit_top.specs.Reading.{Reading, Testing, Exports, Builds, Runs, full_reading}
 use Rattle.run_build.specs.Building.{has_risen}
-use Rattle.vunit_top.specs.Runs.{RunsAs}
+use Rattle.vunit_top.specs.Runs.{RunsBy}
 use Rattle.vunit_top.specs.Said.{Said, Says, SaysRun, IsSaid, HasEnded, Causes, IsAccounted, order_of, report_path_of, plan_in, plain_said, plain_run, build_said}
 use Rattle.vunit_top.proofs.Tops.{some_said}
 use Rattle.vunit_top.proofs.RunTruths.{runs_idle}
@@ -85,9 +85,11 @@ idle_tests tells answer asked result journal moments failures put now report aft
     record {
       parted = λ d c. subst (λ (l : List Event). l ≡ compile_part l ++ test_part l) (sym none) refl;
       tested = λ d c.
-          subst (λ (l : List Event). HasTested answer asked.order asked.plan (work_over records_in_image asked.order moments.now) (compile_part l) (test_part l)) (sym none) (record { graph = λ some. absurd (some refl); made = λ some. absurd (some refl); lawful = lawful; answered = tt });
+          subst (λ (l : List Event). HasTested asked.order asked.plan (work_over records_in_image asked.order moments.now) (compile_part l) (test_part l)) (sym none) (record { graph = λ some. absurd (some refl); made = λ some. absurd (some refl); lawful = lawful });
+      answered = λ d c. subst (λ (l : List Event). Answered answer (test_part l)) (sym none) tt;
       recorded = λ d c some. absurd (some (ap test_part none));
-      right = λ d c faithful. subst (λ (l : List Event). AreRightTests answer asked.order asked.plan (test_part l)) (sym none) (lawful_right answer asked.order asked.plan [] (no_tests (clean_setting answer asked.order asked.plan)));
+      right = λ d c compiler is faithful.
+          subst (λ (l : List Event). AreRightTests compiler asked.order asked.plan (test_part l)) (sym none) (lawful_right compiler asked.order asked.plan [] (no_tests (clean_setting compiler asked.order asked.plan)));
       whole = λ d c is. absurd (ended is);
       steady = λ d c is. absurd (ended is);
       says = λ d c o. says o;
@@ -178,7 +180,7 @@ module _ (tells same : Object → Type 0) (scan : List ℕ → Finding) (answer 
 
   -- one that builds
   pub acts_built : (order : Order) (warnings : List ℕ) (words : List (List ℕ)) (result : Outcome) (before after : Seen) → same Reports →
-      (tells Disk → tells Children → RunsAs scan answer (Builds order warnings) (run_between words result before after) before.moments.now after.moments.now) →
+      (tells Disk → tells Children → RunsBy scan answer (Builds order warnings) (run_between words result before after) before.moments after.moments) →
       (tells Disk → tells Children → tells Out → Says result (build_said warnings order.graph (statuses_between order before after)) before.put after.put) →
       (tells Disk → tells Children → IsSaid result → result ≡ build_outcome order.graph (statuses_between order before after)) → (tells Children → tests_since before after ≡ []) →
       Acts tells same scan answer (Builds order warnings) words result before after
@@ -200,7 +202,7 @@ module _ (tells same : Object → Type 0) (scan : List ℕ → Finding) (answer 
 
   -- one that builds and tests
   pub acts_tested : (asked : Testing) (words : List (List ℕ)) (result : Outcome) (before after : Seen) → (is_given asked.report ≡ false → same Reports) →
-      (tells Disk → tells Children → RunsAs scan answer (Runs asked) (run_between words result before after) before.moments.now after.moments.now) → RunsTests tells answer asked result before after → Acts tells same scan answer (Runs asked) words result before after
+      (tells Disk → tells Children → RunsBy scan answer (Runs asked) (run_between words result before after) before.moments after.moments) → RunsTests tells answer asked result before after → Acts tells same scan answer (Runs asked) words result before after
   acts_tested asked words result before after reports ran runs = record {
     ran = ran;
     untouched = λ none. absurd (none-some asked.order (sym none));

@@ -1,7 +1,7 @@
 -- The lemmas.
 pub mod Tops
 pub mod RunTruths
-mod TestTruths
+pub mod TestTruths
 mod ActTruths
 mod GenerateTruths
 mod Frames

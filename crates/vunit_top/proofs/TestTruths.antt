@@ -18,12 +18,12 @@ use Rattle.run_spec.specs.declared.statuses.FileStatus.TheVariants as status
 use Rattle.base_outcomes.specs.declared.outcome.Outcome.{Outcome}
 use Rattle.base_outcomes.specs.declared.outcome.Outcome.TheVariants as outcome
 use Rattle.outside.specs.Disks.{Moments, AreSound, Rests, added_since, reads_of}
-use Rattle.run_spec.specs.ChildJournal.{Work, artefact_after, progress_of, since}
-use Rattle.run_spec.specs.JournalParts.{compile_part, test_part}
+use Rattle.run_spec.specs.ChildJournal.{Work, Answered, artefact_after, progress_of, since}
+use Rattle.run_spec.specs.JournalParts.{IsCompilerOf, compile_part, test_part}
 use Rattle.run_spec.specs.Commits.{commits}
 use Rattle.run_spec.specs.Faithful.{IsFaithfulDisk}
 use Rattle.run_spec.specs.Statuses.{statuses_of, status_at, status_of, is_refused}
-use Rattle.run_spec.proofs.Parts.{build_parts}
+use Rattle.run_spec.proofs.Parts.{answered_by_compiler, build_parts}
 use Rattle.run_spec.specs.Histories.{ProgramRun, work_over}
 use Rattle.outside.specs.Disks.{DiskState}
 use Rattle.outside.specs.FaultCounts.{BuildFaultCounts, NoBuildCountFell, RunFaultCounts}
@@ -54,12 +54,12 @@ use Rattle.vunit_top.specs.Store.{records_in_image}
 use Rattle.vunit_top.specs.Acts.{Object, Disk, Children, Out, Reports, Seen, RunsTests, statuses_between, setting_between, tests_since, said_between}
 use Rattle.vunit_top.specs.Ends.{WritesReport}
 use Rattle.vunit_top.specs.Reading.{Testing, Builds, Runs}
-use Rattle.vunit_top.specs.Runs.{RunsAs, WritesNothing, run_of}
+use Rattle.vunit_top.specs.Runs.{RunsAs, RunsBy, WritesNothing, run_of}
 use Rattle.vunit_top.specs.Said.{Causes, IsAccounted, IsSaid, HasEnded, HasBuilt, SaysRun, Said, fault_outcome, plain_run}
 use Rattle.vunit_top.proofs.RunTruths.{built_refuses_none, built_said, readable_now, runs_over, writes_nothing}
 
 -- files that are made aren't refused
-made_refuses_none : (statuses : List FileStatus) → list_all is_made statuses ≡ true → list_any is_refused statuses ≡ false
+pub made_refuses_none : (statuses : List FileStatus) → list_all is_made statuses ≡ true → list_any is_refused statuses ≡ false
 made_refuses_none [] made = refl
 made_refuses_none (status.Fresh ∷ statuses) made = made_refuses_none statuses made
 made_refuses_none (status.Compiled ∷ statuses) made = made_refuses_none statuses made
@@ -152,10 +152,11 @@ ended_counted first now old new said same accounted =
 -- ## The run
 
 -- a run with tests builds as one without
-as_run : (scan : List ℕ → Finding) (answer : Request → Exit) (asked : Testing) (run : ProgramRun) (first last : DiskState) → RunsAs scan answer (Builds asked.order asked.warnings) run first last → RunsAs scan answer (Runs asked) run first last
-as_run scan answer asked run first last did = record {
+as_run : (scan : List ℕ → Finding) (compiler : Request → Exit) (asked : Testing) (run : ProgramRun) (first last : DiskState) → RunsAs scan compiler (Builds asked.order asked.warnings) run first last → RunsAs scan compiler (Runs asked) run first last
+as_run scan compiler asked run first last did = record {
   step = did.step;
   ends = did.ends;
+  graph = did.graph;
   whole = did.whole;
   recorded = did.recorded;
   emptied = did.emptied;
@@ -183,22 +184,27 @@ module _ (scan : List ℕ → Finding) (answer : Request → Exit) (asked : Test
   Quiet result = RestsOver records_in_image (λ image. IsResting image) asked.order result old new (compile_part events)
 
   ran_over : (result : Result Tested RunFault) (over : Over result) (words : List (List ℕ)) (said : Outcome) → (over.build ≡ Err fault.NoMemory → said ≡ outcome.NoMemory) → (HasEnded said → (statuses : List FileStatus) × (over.build ≡ Ok statuses)) →
-      (HasBuilt said → list_any is_refused (statuses_of work over.compiled) ≡ false) → Quiet result → (HasEnded said → (tested : Tested) × (result ≡ Ok tested)) → RunsAs scan answer (Runs asked) (run_of words said failed events (added_since old new)) old.now new.now
+      (HasBuilt said → list_any is_refused (statuses_of work over.compiled) ≡ false) → Quiet result → (HasEnded said → (tested : Tested) × (result ≡ Ok tested)) → RunsBy scan answer (Runs asked) (run_of words said failed events (added_since old new)) old new
   ran_over result over words said memory ends none rests answers =
-      as_run scan answer asked (run_of words said failed events (added_since old new)) old.now new.now
-      (subst (λ (l : List Event). RunsAs scan answer (Builds asked.order asked.warnings) (record { words = words; outcome = said; disk_failed = failed; events = l; later = added_since old new }) old.now new.now)
-      ((build_parts work over.compiled over.builds.lawful).0 ∙ sym over.compilers)
-      (runs_over scan answer asked.order asked.warnings over.build failed old new sound over.compiled over.builds words said memory ends none
-      (λ clean resting nothing. writes_nothing result old new (HasEnded said) answers (rests clean resting (ap (commits work) over.compilers ∙ nothing)))))
+      let built : RunsBy scan answer (Builds asked.order asked.warnings) (record { words = words; outcome = said; disk_failed = failed; events = compile_part over.compiled; tests = test_part events; later = added_since old new }) old new =
+      runs_over scan answer asked.order asked.warnings over.build failed old new sound over.compiled over.builds (test_part events) words said memory ends none
+      (λ clean resting nothing. writes_nothing result old new (HasEnded said) answers (rests clean resting (ap (commits work) over.compilers ∙ nothing))) in
+      record {
+        follows = built.follows;
+        by = λ compiler is_compiler.
+            as_run scan compiler asked (run_of words said failed events (added_since old new)) old.now new.now
+            (subst (λ (l : List Event). RunsAs scan compiler (Builds asked.order asked.warnings) (record { words = words; outcome = said; disk_failed = failed; events = l; tests = test_part events; later = added_since old new }) old.now new.now)
+            ((build_parts work over.compiled over.builds.lawful).0 ∙ sym over.compilers) (built.by compiler is_compiler));
+      }
 
   pub ran_ended : (tested : Tested) → Over (Ok tested) → (words : List (List ℕ)) (said : Outcome) → (IsSaid said → said ≡ (run_said asked.warnings asked.order.graph tested.statuses asked.plan.runs asked.words tested.tests).outcome) → Quiet (Ok tested) →
-      RunsAs scan answer (Runs asked) (run_of words said failed events (added_since old new)) old.now new.now
+      RunsBy scan answer (Runs asked) (run_of words said failed events (added_since old new)) old new
   ran_ended tested over words said answered rests =
       ran_over (Ok tested) over words said (λ is. let nothing : Ok tested.statuses ≡ Err fault.NoMemory = sym over.gives.0 ∙ is in absurd cc) (λ is. (tested.statuses, over.gives.0))
       (λ is. subst (λ (m : List FileStatus). list_any is_refused m ≡ false) (has_status answer asked failed old new events tested over)
       (none_refused (setting_after asked.order asked.plan work over.compiled) asked.warnings asked.order.graph tested.statuses asked.plan.runs asked.words tested.tests over.tests said over.gives.1 is (answered (built_said said is)))) rests (λ is. (tested, refl))
 
-  pub ran_faulted : (why : RunFault) → Over (Err why) → (words : List (List ℕ)) → Quiet (Err why) → RunsAs scan answer (Runs asked) (run_of words (fault_outcome why) failed events (added_since old new)) old.now new.now
+  pub ran_faulted : (why : RunFault) → Over (Err why) → (words : List (List ℕ)) → Quiet (Err why) → RunsBy scan answer (Runs asked) (run_of words (fault_outcome why) failed events (added_since old new)) old new
   ran_faulted why over words rests =
       ran_over (Err why) over words (fault_outcome why) (λ is. ap fault_outcome (same_fault why fault.NoMemory (over.stops fault.NoMemory is).0)) (λ is. absurd (never_ended why is)) (λ is. absurd (never_built why is)) rests (λ is. absurd (never_ended why is)) where
         same_fault : (why other : RunFault) → ◌≡◌ {A = Result Tested RunFault} (Err why) (Err other) → why ≡ other
@@ -223,11 +229,14 @@ module _ (tells : Object → Type 0) (answer : Request → Exit) (asked : Testin
     parts : events ≡ compile_part events ++ test_part events
     parts = moved (λ c t. events ≡ c ++ t) over.parted
 
-    here : HasTested answer asked.order asked.plan built over.compiled over.tests
-    here = record { graph = λ some. over.builds.graph_form; made = over.made; lawful = over.lawful; answered = over.answered }
+    here : HasTested asked.order asked.plan built over.compiled over.tests
+    here = record { graph = λ some. over.builds.graph_form; made = over.made; lawful = over.lawful }
 
-    has_tested : HasTested answer asked.order asked.plan built (compile_part events) (test_part events)
-    has_tested = moved (λ c t. HasTested answer asked.order asked.plan built c t) here
+    has_tested : HasTested asked.order asked.plan built (compile_part events) (test_part events)
+    has_tested = moved (λ c t. HasTested asked.order asked.plan built c t) here
+
+    answers_are : Answered answer (test_part events)
+    answers_are = moved (λ c t. Answered answer t) over.answered
 
     -- tests are started only after a build without a fault, by which each file that is made is recorded
     are_recorded : (test_part events ≡ [] → ⊥) → (position : ℕ) → position < length asked.order.graph → IsDurablyRecorded records_in_image after.moments.now asked.order.graph position
@@ -241,10 +250,11 @@ module _ (tells : Object → Type 0) (answer : Request → Exit) (asked : Testin
           (subst (λ (r : Result (List FileStatus) RunFault). OnOk r ((k : ℕ) → k < length asked.order.graph → is_some (artefact_after built over.compiled k) ≡ true → IsDurablyRecorded records_in_image after.moments.now asked.order.graph k)) is over.builds.recorded)
           position inside (all_have built over.compiled (over.made started) position inside)
 
-    are_right : IsFaithfulDisk answer records_in_image before.moments.now → AreRightTests answer asked.order asked.plan (test_part events)
-    are_right faithful =
-        moved (λ c t. AreRightTests answer asked.order asked.plan t)
-        (tests_right answer records_in_image asked.order asked.plan before.moments.now over.compiled over.tests (readable_now before.moments sound) faithful over.builds.graph_form over.builds.lawful over.builds.answered here)
+    are_right : (compiler : Request → Exit) → IsCompilerOf compiler answer → IsFaithfulDisk compiler records_in_image before.moments.now → AreRightTests compiler asked.order asked.plan (test_part events)
+    are_right compiler is_compiler faithful =
+        moved (λ c t. AreRightTests compiler asked.order asked.plan t)
+        (tests_right compiler records_in_image asked.order asked.plan before.moments.now over.compiled over.tests (readable_now before.moments sound) faithful over.builds.graph_form over.builds.lawful
+        (answered_by_compiler compiler answer is_compiler built over.compiled over.builds.lawful over.builds.answered) here)
 
   module _ (tested : Tested) (over : Tests (Ok tested)) where
     same_statuses : tested.statuses ≡ statuses_between asked.order before after
@@ -274,10 +284,11 @@ module _ (tells : Object → Type 0) (answer : Request → Exit) (asked : Testin
   tests_ended tested over result says answers writes = record {
     parted = λ d c. parts (Ok tested) (over d c);
     tested = λ d c. has_tested (Ok tested) (over d c);
+    answered = λ d c. answers_are (Ok tested) (over d c);
     recorded = λ d c. are_recorded (Ok tested) (over d c);
     right = λ d c. are_right (Ok tested) (over d c);
     whole = λ d c ended. are_whole tested (over d c);
-    steady = λ d c ended going made. ends_steady answer (setting_between asked before after) going (tests_since before after) (are_whole tested (over d c) made) ((has_tested (Ok tested) (over d c)).answered);
+    steady = λ d c ended going made. ends_steady answer (setting_between asked before after) going (tests_since before after) (are_whole tested (over d c) made) (answers_are (Ok tested) (over d c));
     says = λ d c o. subst (λ (s : RunSaid). SaysRun result (plain_run s) before.put after.put) (same_said tested (over d c)) (says o);
     answers = λ d c. subst (λ (s : RunSaid). IsSaid result → result ≡ s.outcome) (same_said tested (over d c)) answers;
     writes = λ d c w. subst (λ (s : RunSaid). WritesReport asked.report s.report result before.report after.report) (same_said tested (over d c)) (writes w);
@@ -287,6 +298,7 @@ module _ (tells : Object → Type 0) (answer : Request → Exit) (asked : Testin
   tests_faulted why over result is put report = record {
     parted = λ d c. parts (Err why) (over d c);
     tested = λ d c. has_tested (Err why) (over d c);
+    answered = λ d c. answers_are (Err why) (over d c);
     recorded = λ d c. are_recorded (Err why) (over d c);
     right = λ d c. are_right (Err why) (over d c);
     whole = λ d c ended. absurd (never_ended why (subst HasEnded is ended));

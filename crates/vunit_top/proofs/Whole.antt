@@ -23,7 +23,7 @@ use Rattle.project_reading.specs.declared.query.Query.{Query}
 use Rattle.generated_runs.specs.declared.options.GenerateOptions.{GenerateOptions}
 use Rattle.vunit_top.specs.declared.words.Task.{Task}
 use Rattle.vunit_top.specs.Acts.{Object, Input, Tree, Disk, Children, Out, Reports, Seen, seen, run_between, said_between, tests_since, of_each, Acts, RunsTests}
-use Rattle.vunit_top.specs.Did.{Call, Snapshot, AreSourcesTold, IsTold, Did, DidAs, Keeps, Leaves, LeavesOut, Puts, RanAs, part, said_of}
+use Rattle.vunit_top.specs.Did.{Call, Snapshot, AreSourcesTold, IsTold, Did, DidAs, Keeps, Leaves, LeavesOut, Puts, part, said_of}
 use Rattle.vunit_top.specs.Ends.{WritesResults}
 use Rattle.vunit_top.specs.Generated.{GeneratesAs}
 use Rattle.vunit_top.specs.Reading.{Reading, Testing, Bad, Child, Compiler, Simulator, Stops, Over, Lists, ListsTests, Exports, Builds, Runs, Generates, generates, may_test, full_reading, query_of, task_reading, words_task}
@@ -32,6 +32,7 @@ use Rattle.vunit_top.specs.Touches.{is_child, touches, may_touch}
 use Rattle.vunit_top.proofs.ActTruths.{none_run}
 use Rattle.vunit_top.proofs.Frames.{IsOfTask, each_row, not_so, no_order_if, no_order_by, no_report_if, of_task}
 use Rattle.vunit_top.proofs.GenerateTruths.{generates_none}
+use Rattle.vunit_top.specs.Runs.{RunsBy}
 use Rattle.vunit_top.proofs.RunTruths.{runs_idle}
 use Rattle.vunit_top.proofs.TestTruths.{nothing_written}
 
@@ -45,7 +46,7 @@ asks_none paths before after is = record { first = []; rest = paths; split = ref
 
 -- what became of a build where there was none
 pub ran_idle : (scan : List ℕ → Finding) (answer : Request → Exit) (r : Reading) (words : List (List ℕ)) (result : Outcome) (journal : List Event) (moments : Moments) → AreSound moments → (failures : ℕ) (put now : List ℕ) (report after : List ℕ → Option (List ℕ)) →
-    (HasEnded result → order_of r ≡ None) → RanAs scan answer r (run_between words result (seen journal moments failures put report) (seen journal moments failures now after)) moments.now moments.now
+    (HasEnded result → order_of r ≡ None) → RunsBy scan answer r (run_between words result (seen journal moments failures put report) (seen journal moments failures now after)) moments moments
 ran_idle scan answer r words result journal moments sound failures put now report after unordered = runs_idle scan answer r words result (has_risen failures failures) journal moments sound unordered
 
 -- sources that are told are told whatever words ask for
@@ -117,7 +118,7 @@ module _ (call : Call) (scan : List ℕ → Finding) (words : List (List ℕ)) (
       (after.paths ≡ before.paths ++ paths) ⊎ (AsksFirst paths before.paths after.paths × same Disk × same Children)
 
   retold : (asked : Testing) → RunsTests (of_each (tells Disk) (tells Children) (tells Out) (tells Reports)) before.answer asked result (part before) (part after) → RunsTests tells before.answer asked result (part before) (part after)
-  retold asked ran = record { parted = ran.parted; tested = ran.tested; recorded = ran.recorded; right = ran.right; whole = ran.whole; steady = ran.steady; says = ran.says; answers = ran.answers; writes = ran.writes }
+  retold asked ran = record { parted = ran.parted; tested = ran.tested; answered = ran.answered; recorded = ran.recorded; right = ran.right; whole = ran.whole; steady = ran.steady; says = ran.says; answers = ran.answers; writes = ran.writes }
 
   says_acts : (r : Reading) → ActsAs r → is_child r ≡ false → tells Out → IsTold tells r → IfSome (said_of scan r before after) (λ said. Puts r result said before.put after.put)
   says_acts Bad acts e out told = plain_if (plain_said Bad) (λ what. Says result what before.put after.put) (acts.says_plain out)
@@ -200,7 +201,7 @@ module _ (call : Call) (scan : List ℕ → Finding) (words : List (List ℕ)) (
       (inr (asks_none (project_paths before.sources.file before.sources.listed) before.paths after.paths (paths (alone r refl).0), (alone r refl).1, (alone r refl).2))
 
   -- of words that alone say what is said, without a child
-  pub did_alone : (r : Reading) → order_of r ≡ None → generates (Err r) ≡ false → RanAs scan before.answer r (run_between words result (part before) (part after)) before.moments.now after.moments.now → tests_since (part before) (part after) ≡ [] →
+  pub did_alone : (r : Reading) → order_of r ≡ None → generates (Err r) ≡ false → RunsBy scan before.answer r (run_between words result (part before) (part after)) before.moments after.moments → tests_since (part before) (part after) ≡ [] →
       (tells Out → IsTold tells r → IfSome (said_of scan r before after) (λ said. Puts r result said before.put after.put)) → (IsTold tells r → IfSome (said_of scan r before after) (λ said. IsSaid result → result ≡ said.outcome)) →
       (tells Reports → IsTold tells r → Leaves r result before after) → ((object : Object) → touches r object ≡ false → same object) → (tells Input → LeavesOut scan r before.left (same Out)) → after.paths ≡ before.paths → same Disk → same Children → DidAs call scan (Err r) words r result
   did_alone r unordered plain ran tests says answers leaves frame silent paths disk children = record {

@@ -8,9 +8,9 @@ use Rattle.base.specs.declared.child.MaybeText.TheVariants.{Nothing}
 use Rattle.run_spec.specs.declared.statuses.FileStatus.{FileStatus}
 use Rattle.base_outcomes.specs.declared.outcome.Outcome.{Outcome}
 use Rattle.outside.specs.Disks.{Moments, added_since}
-use Rattle.run_spec.specs.ChildJournal.{since}
+use Rattle.run_spec.specs.ChildJournal.{Answered, since}
 use Rattle.run_spec.specs.Histories.{Order, ProgramRun, work_over}
-use Rattle.run_spec.specs.JournalParts.{compile_part, test_part}
+use Rattle.run_spec.specs.JournalParts.{IsCompilerOf, compile_part, test_part}
 use Rattle.run_spec.specs.Faithful.{IsFaithfulDisk}
 use Rattle.run_spec.specs.Statuses.{statuses_of}
 use Rattle.report.specs.Outcomes.{build_outcome}
@@ -29,7 +29,7 @@ use Rattle.vunit_top.specs.Store.{records_in_image}
 use Rattle.vunit_top.specs.Ends.{Writes, WritesReport}
 use Rattle.vunit_top.specs.Reading.{Reading, Testing, Exports, Builds, Runs}
 use Rattle.run_build.specs.Building.{has_risen}
-use Rattle.vunit_top.specs.Runs.{RunsAs, run_of}
+use Rattle.vunit_top.specs.Runs.{RunsBy, run_of}
 use Rattle.vunit_top.specs.Said.{Said, Says, SaysRun, IsSaid, HasEnded, order_of, report_path_of, plan_in, plain_said, plain_run, build_said}
 
 -- the objects that a run may change
@@ -90,17 +90,19 @@ abbrev pub said_between : Testing → Seen → Seen → RunSaid
 said_between asked before after = run_said asked.warnings asked.order.graph (statuses_between asked.order before after) asked.plan.runs asked.words (tests_between asked before after)
 
 -- What a run with tests did and said between two moments, besides its build. All events of compilers come before those of
--- tests. These are lawful runs of the plan over exactly what was built, none where a file isn't made, each end the answer to
--- its start; and they are whole where the run has ended and all files are made. On every answer, where a test was started, each
+-- tests. These are lawful runs of the plan over exactly what was built, none where a file isn't made; each end is what the children
+-- of this run answer to its start; and they are whole where the run has ended and all files are made. On every answer, where a test was started, each
 -- file has a record of its present view in whatever a stop can leave at the end. Where they are whole, without `--fail-fast`, the
 -- ends are those of the answers to their requests, whatever the order in which they came. From a disk of true records each start of a
 -- test is over the libraries of a clean build. The text is that of statuses, verdicts and outputs, and so are the answer and the
 -- report, which is written last.
 pub record RunsTests (tells : Object → Type 0) (answer : Request → Exit) (asked : Testing) (result : Outcome) (before after : Seen) : Type 0 where
   pub parted : tells Disk → tells Children → since before.journal after.journal ≡ compile_part (since before.journal after.journal) ++ tests_since before after
-  pub tested : tells Disk → tells Children → HasTested answer asked.order asked.plan (work_over records_in_image asked.order before.moments.now) (compile_part (since before.journal after.journal)) (tests_since before after)
+  pub tested : tells Disk → tells Children → HasTested asked.order asked.plan (work_over records_in_image asked.order before.moments.now) (compile_part (since before.journal after.journal)) (tests_since before after)
+  pub answered : tells Disk → tells Children → Answered answer (tests_since before after)
   pub recorded : tells Disk → tells Children → (tests_since before after ≡ [] → ⊥) → (position : ℕ) → position < length asked.order.graph → IsDurablyRecorded records_in_image after.moments.now asked.order.graph position
-  pub right : tells Disk → tells Children → IsFaithfulDisk answer records_in_image before.moments.now → AreRightTests answer asked.order asked.plan (tests_since before after)
+  pub right : tells Disk → tells Children → (compiler : Request → Exit) → IsCompilerOf compiler answer → IsFaithfulDisk compiler records_in_image before.moments.now →
+      AreRightTests compiler asked.order asked.plan (tests_since before after)
   pub whole : tells Disk → tells Children → HasEnded result → list_all is_made (statuses_between asked.order before after) ≡ true → IsWholeTests (setting_between asked before after) (tests_since before after)
   pub steady : tells Disk → tells Children → HasEnded result → asked.plan.fail_fast ≡ false → list_all is_made (statuses_between asked.order before after) ≡ true →
       test_ends (setting_between asked before after) (tests_since before after) ≡ steady_ends answer asked.plan (setting_between asked before after).built
@@ -112,7 +114,7 @@ pub record RunsTests (tells : Object → Type 0) (answer : Request → Exit) (as
 -- are the same, are its premises.
 pub record Acts (tells same : Object → Type 0) (scan : List ℕ → Finding) (answer : Request → Exit) (r : Reading) (words : List (List ℕ)) (result : Outcome) (before after : Seen) : Type 0 where
   -- what it did is a step of a history, with what follows of it
-  pub ran : tells Disk → tells Children → RunsAs scan answer r (run_between words result before after) before.moments.now after.moments.now
+  pub ran : tells Disk → tells Children → RunsBy scan answer r (run_between words result before after) before.moments after.moments
   -- where nothing is to be built, disk and children are as before; so are the reports where none is to be written, and the
   -- output where a report is
   pub untouched : order_of r ≡ None → same Disk × same Children

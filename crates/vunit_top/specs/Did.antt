@@ -12,10 +12,10 @@ use Rattle.outside.specs.declared.procs.Procs as procs
 use Rattle.outside.specs.declared.streams.Source as source
 use Rattle.outside.specs.declared.streams.Sink as sink
 use Rattle.outside.specs.declared.reports.Reports as reports
-use Rattle.outside.specs.Disks.{DiskState, Moments}
+use Rattle.outside.specs.Disks.{Moments}
 use Rattle.outside.specs.FaultCounts.{RunFaultCounts, run_counts}
 use Rattle.run_spec.specs.ChildJournal.{since}
-use Rattle.run_spec.specs.Histories.{Sources, ProgramRun}
+use Rattle.run_spec.specs.Histories.{Sources}
 use Rattle.vhdl_spec.specs.Scans.{Finding}
 use Rattle.child_tools.specs.Answers.{analysis}
 use Rattle.child_tools.specs.Benches.{simulation}
@@ -26,7 +26,7 @@ use Rattle.vunit_top.specs.Acts.{Object, Input, Tree, Disk, Children, Out, Repor
 use Rattle.vunit_top.specs.Ends.{Writes, WritesReport, WritesResults}
 use Rattle.vunit_top.specs.Generated.{GeneratesAs}
 use Rattle.vunit_top.specs.Reading.{Reading, Testing, Tool, Compiler, Simulator, Child, Exports, Builds, Runs, Generates, generates, may_test, reading, words_task}
-use Rattle.vunit_top.specs.Runs.{RunsAs}
+use Rattle.vunit_top.specs.Runs.{RunsBy}
 use Rattle.vunit_top.specs.Said.{Said, Says, SaysRun, IsSaid, plan_in, plain_said, plain_run, build_said, child_said, child_results}
 use Rattle.vunit_top.specs.Touches.{touches, may_touch}
 
@@ -133,10 +133,6 @@ abbrev pub LeavesOut : (List ℕ → Finding) → Reading → (left : List ℕ) 
 LeavesOut scan (Child tool) left same = (tool_said scan tool left).text ≡ [] → same
 LeavesOut scan reading left same = Unit {0}
 
--- what became of the build of a run between two moments of its disk
-abbrev pub RanAs : (List ℕ → Finding) → (Request → Exit) → Reading → ProgramRun → (first last : DiskState) → Type 0
-RanAs scan answer reading run first last = RunsAs scan answer reading run first last
-
 -- What a call did and said, by its reading. What it did to the disk is a step of a history, and right from a disk of true
 -- records; a run with tests ran them over exactly what was built; where none are asked for none was started. What it says, answers
 -- and leaves of reports is that of the reading. No other object is touched than the reading names, and not the output of a
@@ -144,7 +140,7 @@ RanAs scan answer reading run first last = RunsAs scan answer reading run first 
 -- disk nor children are touched. What a run did that generates a project, over a disk of its own, has its own record.
 pub record DidAs (call : Call) (scan : List ℕ → Finding) (task : Result Task Reading) (words : List (List ℕ)) (r : Reading) (result : Outcome) : Type 0 where
   pub ran : call.tells Disk → call.tells Children → generates task ≡ false →
-      RanAs scan call.before.answer r (run_between words result (part call.before) (part call.after)) call.before.moments.now call.after.moments.now
+      RunsBy scan call.before.answer r (run_between words result (part call.before) (part call.after)) call.before.moments call.after.moments
   pub runs : (asked : Testing) → r ≡ Runs asked → RunsTests call.tells call.before.answer asked result (part call.before) (part call.after)
   pub untested : call.tells Children → generates task ≡ false → plan_in r ≡ None → tests_since (part call.before) (part call.after) ≡ []
   pub says : call.tells Out → IsTold call.tells r → IfSome (said_of scan r call.before call.after) (λ said. Puts r result said call.before.put call.after.put)

@@ -4,40 +4,36 @@ use Rattle.base.specs.declared.child.Request.{Request}
 use Rattle.base.specs.declared.child.Exit.{Exit}
 use Rattle.base.specs.declared.child.Event.{Event}
 use Rattle.base_outcomes.specs.declared.outcome.Outcome.{Outcome}
-use Rattle.outside.specs.Disks.{DiskState, EachImage, Shrinks, reads_of, settled_disk}
+use Rattle.base.specs.Graphs.{IsGraph}
+use Rattle.outside.specs.Disks.{DiskState, EachImage, Follows, Moments, Shrinks, reads_of, settled_disk}
 use Rattle.outside.specs.Commits.{last_state}
 use Rattle.run_spec.specs.ChildJournal.{Work, IsWhole, progress_of, artefact_after}
 use Rattle.run_spec.specs.Settled.{request_unless}
 use Rattle.run_spec.specs.Commits.{commits}
 use Rattle.run_spec.specs.Faithful.{IsFaithfulDisk}
 use Rattle.run_spec.specs.Histories.{Order, World, ProgramRun, RunStep, work_over}
-use Rattle.run_spec.specs.JournalParts.{compile_part}
+use Rattle.run_spec.specs.JournalParts.{IsCompilerOf, compile_part, test_part}
 use Rattle.run_spec.specs.Statuses.{statuses_of, steady_statuses, NoRefusalHalts}
 use Rattle.run_laws.specs.Rights.{IsRightStep}
 use Rattle.vhdl_spec.specs.Scans.{Finding}
-use Rattle.run_tests.specs.Histories.{TestedWorld}
 use Rattle.vunit_top.specs.Store.{IsRestingDisk, records_in_image}
 use Rattle.run_build.specs.Orders.{IsDurablyRecorded}
 use Rattle.vunit_top.specs.Reading.{Reading, reading}
 use Rattle.vunit_top.specs.Said.{HasEnded, HasBuilt, order_of, order_in, plan_in}
 
 -- what runs of the program have in common, over one compiler
-abbrev pub world_of : (List ℕ → Finding) → (Request → Exit) → World
-world_of scan answer = record { answer = answer; records_of = records_in_image; reading = λ words sources. order_of (reading scan words sources) }
-
--- what runs of the program with tests have in common, over one compiler
-abbrev pub tested_world_of : (List ℕ → Finding) → (Request → Exit) → TestedWorld
-tested_world_of scan answer = record { world = world_of scan answer; plan = λ words sources. plan_in (reading scan words sources) }
+abbrev pub world_of : (List ℕ → Finding) → (compiler : Request → Exit) → World
+world_of scan compiler = record { compiler = compiler; records_of = records_in_image; reading = λ words sources. order_of (reading scan words sources); plan = λ words sources. plan_in (reading scan words sources) }
 
 -- a run with these words and this answer, in which these events and these moments of the disk were added
 abbrev pub run_of : List (List ℕ) → Outcome → Bool → List Event → List DiskState → ProgramRun
-run_of words result disk_failed events later = record { words = words; outcome = result; disk_failed = disk_failed; events = compile_part events; later = later }
+run_of words result disk_failed events later = record { words = words; outcome = result; disk_failed = disk_failed; events = compile_part events; tests = test_part events; later = later }
 
 -- The started files are those that the settled build asks for: those that have no current record over what it makes of the
 -- files that they depend on, and that it doesn't block. The statuses are those that it says.
-pub record IsExact (answer : Request → Exit) (setting : Work) (events : List Event) : Type 0 where
-  pub started : (position : ℕ) → Contains (progress_of setting events).taken position ↔ ((request : Request) × (request_unless answer setting.graph setting.current position ≡ Some request))
-  pub steady : statuses_of setting events ≡ steady_statuses answer setting.graph setting.current
+pub record IsExact (compiler : Request → Exit) (setting : Work) (events : List Event) : Type 0 where
+  pub started : (position : ℕ) → Contains (progress_of setting events).taken position ↔ ((request : Request) × (request_unless compiler setting.graph setting.current position ≡ Some request))
+  pub steady : statuses_of setting events ≡ steady_statuses compiler setting.graph setting.current
 
 -- Nothing was written to a disk from its first moment through later ones: no image was added at any moment; and a run that
 -- has ended left what reads gave before it, synced.
@@ -51,18 +47,25 @@ RestsFrom None run first last = Unit {0}
 RestsFrom (Some order) run first last = order.clean ≡ false → IsRestingDisk first → commits (work_over records_in_image order first) run.events ≡ [] → WritesNothing (HasEnded run.outcome) first run.later last
 
 -- What a run did, over the moment of the disk before it and the last one. It is the step of a history, which goes on from
--- that last moment. Where it has ended its build did so by itself, and each file that is made has a record of its present
+-- that last moment. Where it has ended it was of a graph, its build did so by itself, and each file that is made has a record of its present
 -- view in whatever a stop can leave; with a store that is to be emptied that has the records of this build alone. Where it
 -- has ended and no refusal halted it, it is exact; and where it is done, or its tests failed, each file is made. Where nothing
 -- is due to be written, it writes nothing. From a disk of true records it is right: at each of its moments a stop can leave
 -- true records alone, and each compiler is asked what a clean build asks it.
-pub record RunsAs (scan : List ℕ → Finding) (answer : Request → Exit) (r : Reading) (run : ProgramRun) (first last : DiskState) : Type 0 where
-  pub step : RunStep (world_of scan answer) (order_of r) run first
+pub record RunsAs (scan : List ℕ → Finding) (compiler : Request → Exit) (r : Reading) (run : ProgramRun) (first last : DiskState) : Type 0 where
+  pub step : RunStep (world_of scan compiler) (order_of r) run first
   pub ends : last_state first run.later ≡ last
+  pub graph : HasEnded run.outcome → IsGraph (order_in r).graph
   pub whole : HasEnded run.outcome → IsWhole (work_over records_in_image (order_in r) first) run.events
   pub recorded : HasEnded run.outcome → (position : ℕ) → position < length (order_in r).graph → is_some (artefact_after (work_over records_in_image (order_in r) first) run.events position) ≡ true → IsDurablyRecorded records_in_image last (order_in r).graph position
   pub emptied : HasEnded run.outcome → (order_in r).clean ≡ true → EachImage (λ image. records_in_image image ≡ commits (work_over records_in_image (order_in r) first) run.events) last
   pub rests : RestsFrom (order_of r) run first last
-  pub right : IsFaithfulDisk answer records_in_image first → IsRightStep (world_of scan answer) (order_of r) run first
-  pub exact : HasEnded run.outcome → NoRefusalHalts (work_over records_in_image (order_in r) first) run.events → IsExact answer (work_over records_in_image (order_in r) first) run.events
+  pub right : IsFaithfulDisk compiler records_in_image first → IsRightStep (world_of scan compiler) (order_of r) run first
+  pub exact : HasEnded run.outcome → NoRefusalHalts (work_over records_in_image (order_in r) first) run.events → IsExact compiler (work_over records_in_image (order_in r) first) run.events
   pub made : HasBuilt run.outcome → (position : ℕ) → position < length (order_in r).graph → is_some (artefact_after (work_over records_in_image (order_in r) first) run.events position) ≡ true
+
+-- What a run did between two times that its disk is looked at: the moments before it stay, and it is a run of each compiler that
+-- the children have.
+pub record RunsBy (scan : List ℕ → Finding) (answer : Request → Exit) (r : Reading) (run : ProgramRun) (old new : Moments) : Type 0 where
+  pub follows : Follows old new
+  pub by : (compiler : Request → Exit) → IsCompilerOf compiler answer → RunsAs scan compiler r run old.now new.now

@@ -34,6 +34,7 @@ abbrev pub is_child : Reading → Bool
 is_child (Child tool) = true
 is_child reading = false
 
+-- the program is the simulator that is part of it
 abbrev pub is_simulator : Reading → Bool
 is_simulator (Child Simulator) = true
 is_simulator reading = false

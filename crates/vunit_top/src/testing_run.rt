@@ -17,7 +17,7 @@ ghost use Rattle.report.specs.Said.{run_said};
 ghost use Rattle.vunit_top.specs.Acts.{RunsTests, of_each, seen};
 ghost use Rattle.vunit_top.specs.Ends.{ReportCauses, WritesLast, WritesReport};
 ghost use Rattle.vunit_top.specs.Reading.{Runs, chosen, testing_with, testing_of};
-ghost use Rattle.vunit_top.specs.Runs.{RunsAs, run_of};
+ghost use Rattle.vunit_top.specs.Runs.{RunsBy, run_of};
 ghost use Rattle.vunit_top.specs.Said.{IsAccounted, IsSaid, Said, SaysRun, fault_outcome, plain_run};
 
 use crate::words::RunOptions;
@@ -202,12 +202,12 @@ fn test_planned<D: Disk, P: Procs, O: Sink, R: Reports>(
         ≡ P.journal procs.old ++ since (P.journal procs.old) (P.journal procs.new)) }
     ensures ran { (scan : List ℕ → Finding) (words : List (List ℕ)) → D.tells → P.tells →
         let asked = testing_with options.now read.now planned.runs planned.warnings in
-        RunsAs scan (P.answer procs.old) (Runs asked)
+        RunsBy scan (P.answer procs.old) (Runs asked)
         (run_of words result
         (has_risen (D.failed_disk_calls disk.old) (D.failed_disk_calls disk.new))
         (since (P.journal procs.old) (P.journal procs.new))
         (added_since (D.moments disk.old) (D.moments disk.new)))
-        (D.moments disk.old).now (D.moments disk.new).now }
+        (D.moments disk.old) (D.moments disk.new) }
     ensures runs { let asked = testing_with options.now read.now planned.runs planned.warnings in
         RunsTests (of_each D.tells P.tells O.tells R.tells) (P.answer procs.old) asked result
         (seen (P.journal procs.old) (D.moments disk.old) (D.failed_disk_calls disk.old)
@@ -267,12 +267,12 @@ pub fn test_project<D: Disk, P: Procs, O: Sink, R: Reports>(
         (P.journal procs.new
         ≡ P.journal procs.old ++ since (P.journal procs.old) (P.journal procs.new)) }
     ensures ran { (scan : List ℕ → Finding) (words : List (List ℕ)) → D.tells → P.tells →
-        RunsAs scan (P.answer procs.old) (Runs (testing_of options.now read.now))
+        RunsBy scan (P.answer procs.old) (Runs (testing_of options.now read.now))
         (run_of words result
         (has_risen (D.failed_disk_calls disk.old) (D.failed_disk_calls disk.new))
         (since (P.journal procs.old) (P.journal procs.new))
         (added_since (D.moments disk.old) (D.moments disk.new)))
-        (D.moments disk.old).now (D.moments disk.new).now }
+        (D.moments disk.old) (D.moments disk.new) }
     ensures runs { RunsTests (of_each D.tells P.tells O.tells R.tells) (P.answer procs.old)
         (testing_of options.now read.now) result
         (seen (P.journal procs.old) (D.moments disk.old) (D.failed_disk_calls disk.old)

@@ -31,7 +31,7 @@ ghost use Rattle.vunit_top.specs.Ends.{StopCounts, OutCauses, ReportCauses, Writ
 ghost use Rattle.run_build.specs.Orders.{order_by};
 ghost use Rattle.vunit_top.specs.Reading.{Reading, Testing, Builds, Exports, Runs, HasSlots, full_reading, task_reading, setting_task, chosen, is_build, is_run, may_test, may_write, generates, query_of};
 ghost use Rattle.run_build.specs.Building.{has_risen};
-ghost use Rattle.vunit_top.specs.Runs.{RunsAs, run_of};
+ghost use Rattle.vunit_top.specs.Runs.{RunsBy, run_of};
 ghost use Rattle.vunit_top.specs.Said.{Said, Says, SaysRun, IsSaid, HasEnded, Causes, IsAccounted, order_of, plain_said, build_said};
 
 use crate::children::{run_as_compiler, run_as_simulator};
@@ -72,12 +72,12 @@ fn build_graph<D: Disk, P: Procs, O: Sink>(
     ensures no_tests { P.tells →
         test_part (since (P.journal procs.old) (P.journal procs.new)) ≡ [] }
     ensures ran { (scan : List ℕ → Finding) (words : List (List ℕ)) → D.tells → P.tells →
-        RunsAs scan (P.answer procs.old) (Builds (order_by options graph.now) warnings)
+        RunsBy scan (P.answer procs.old) (Builds (order_by options graph.now) warnings)
         (run_of words result
         (has_risen (D.failed_disk_calls disk.old) (D.failed_disk_calls disk.new))
         (since (P.journal procs.old) (P.journal procs.new))
         (added_since (D.moments disk.old) (D.moments disk.new)))
-        (D.moments disk.old).now (D.moments disk.new).now }
+        (D.moments disk.old) (D.moments disk.new) }
     ensures says { D.tells → P.tells → O.tells →
         let order = order_by options graph.now in
         let events = compile_part (since (P.journal procs.old) (P.journal procs.new)) in
@@ -121,13 +121,13 @@ fn build_project<D: Disk, P: Procs, O: Sink>(
     ensures no_tests { P.tells →
         test_part (since (P.journal procs.old) (P.journal procs.new)) ≡ [] }
     ensures ran { (scan : List ℕ → Finding) (words : List (List ℕ)) → D.tells → P.tells →
-        RunsAs scan (P.answer procs.old) (Builds (order_by options read.now.graph)
+        RunsBy scan (P.answer procs.old) (Builds (order_by options read.now.graph)
         (warning_text read.now.project.files read.now.warnings))
         (run_of words result
         (has_risen (D.failed_disk_calls disk.old) (D.failed_disk_calls disk.new))
         (since (P.journal procs.old) (P.journal procs.new))
         (added_since (D.moments disk.old) (D.moments disk.new)))
-        (D.moments disk.old).now (D.moments disk.new).now }
+        (D.moments disk.old) (D.moments disk.new) }
     ensures says { D.tells → P.tells → O.tells →
         let order = order_by options read.now.graph in
         let warnings = warning_text read.now.project.files read.now.warnings in

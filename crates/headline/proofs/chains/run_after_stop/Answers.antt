@@ -1,17 +1,34 @@
-use Rattle.std.proofs.Common.{List, ◌++◌, sym, ap, ◌∙◌}
+use Rattle.std.proofs.Common.{◌≡◌, List, ◌++◌, sym, ap, subst, ◌∙◌}
 use Rattle.base.specs.declared.child.Event.{Event}
 use Rattle.outside.specs.Disks.{added_since}
 use Rattle.run_spec.specs.ChildJournal.{since}
+use Rattle.run_spec.specs.JournalParts.{IsCompilerOf}
 use Rattle.run_build.specs.Building.{has_risen}
+use Rattle.vunit_top.specs.Reading.{words_task}
 use Rattle.vunit_top.proofs.RunTruths.{readable_now}
+use Rattle.vunit_top.proofs.Whole.{sources_told}
 use Rattle.headline.specs.Chains.{Deeds}
 use Rattle.headline.proofs.ChainTruths.{ran_after_stop}
 use Rattle.headline.proofs.chains.run_after_stop.Goals as goal
 
+pub returns-clause-same : goal.returns-clause-same
+returns-clause-same g c = c.run_vunit-second.ensures.keeps.answer ∙ c.run_vunit-first.ensures.keeps.answer
+
+pub returns-clause-sources : goal.returns-clause-sources
+returns-clause-sources g c = c.run_vunit-second.ensures.keeps.file ∙ c.run_vunit-first.ensures.keeps.file
+
+pub returns-clause-listed : goal.returns-clause-listed
+returns-clause-listed g c = c.run_vunit-second.ensures.keeps.listed ∙ c.run_vunit-first.ensures.keeps.listed
+
 pub returns-clause-ran : goal.returns-clause-ran
-returns-clause-ran g c = λ scan is t d e p plain moment at stop.
+returns-clause-ran g c = λ scan is t d e p plain moment at stop compiler by.
     let one = c.run_vunit-first.new in
     let two = c.run_vunit-second.new in
+    let told = sources_told g.T.Tree.tells t (words_task c.args.words.now) in
+    let did = c.run_vunit-first.ensures.did scan is told in
+    let then = c.run_vunit-second.ensures.did scan is told in
+    let file : g.T.Tree.file one.tree ≡ g.T.Tree.file c.args.tree.now = c.run_vunit-first.ensures.keeps.file in
+    let listed : g.T.Tree.listed one.tree ≡ g.T.Tree.listed c.args.tree.now = c.run_vunit-first.ensures.keeps.listed in
     let before : Deeds = record {
       disk_failed = has_risen (g.D.Disk.failed_disk_calls c.args.disk.now) (g.D.Disk.failed_disk_calls one.disk);
       events = since (g.P.Procs.journal c.args.procs.now) (g.P.Procs.journal one.procs);
@@ -22,19 +39,19 @@ returns-clause-ran g c = λ scan is t d e p plain moment at stop.
       events = since (g.P.Procs.journal one.procs) (g.P.Procs.journal two.procs);
       later = added_since (g.E.Disk.moments c.args.left.now) (g.E.Disk.moments two.disk);
     } in
-    ran_after_stop scan (g.P.Procs.answer c.args.procs.now) c.args.words.now (record { file = g.T.Tree.file c.args.tree.now; listed = g.T.Tree.listed c.args.tree.now }) c.run_vunit-first.result c.run_vunit-second.result before after
+    ran_after_stop scan compiler c.args.words.now (record { file = g.T.Tree.file c.args.tree.now; listed = g.T.Tree.listed c.args.tree.now }) c.run_vunit-first.result c.run_vunit-second.result before after
     (g.D.Disk.moments c.args.disk.now).now (g.D.Disk.moments one.disk).now moment (g.E.Disk.moments c.args.left.now).now (g.E.Disk.moments two.disk).now
-    (c.run_vunit-first.ensures.ran scan is t d p plain) at stop
-    (rw (sym c.run_vunit-first.ensures.same, sym c.run_vunit-first.ensures.sources, sym c.run_vunit-first.ensures.listed) (c.run_vunit-second.ensures.ran scan is t e p plain))
+    ((did.ran d p plain).by compiler by) at stop
+    (rw (sym file, sym listed) ((then.ran e p plain).by compiler (subst (IsCompilerOf compiler) (sym c.run_vunit-first.ensures.keeps.answer) by)))
     (g.P.Procs.journal c.args.procs.now) (g.P.Procs.journal two.procs)
     (readable_now (g.D.Disk.moments c.args.disk.now) (g.met.D.Disk.sound c.args.disk.now))
-    (c.run_vunit-second.ensures.kept p ∙ ap (λ (l : List Event). l ++ after.events) (c.run_vunit-first.ensures.kept p))
+    (c.run_vunit-second.ensures.keeps.journal p ∙ ap (λ (l : List Event). l ++ after.events) (c.run_vunit-first.ensures.keeps.journal p))
     (record {
-      untested = λ none. c.run_vunit-first.ensures.untested scan is t p plain none;
-      tested = λ asked reads. (c.run_vunit-first.ensures.runs scan is t asked reads).tested d p;
+      untested = λ none. did.untested p plain none;
+      tested = λ asked reads. (did.runs asked reads).tested d p;
     })
-    (rw (sym c.run_vunit-first.ensures.same, sym c.run_vunit-first.ensures.sources, sym c.run_vunit-first.ensures.listed)
+    (rw (sym file, sym listed)
     (record {
-      untested = λ none. c.run_vunit-second.ensures.untested scan is t p plain none;
-      tested = λ asked reads. (c.run_vunit-second.ensures.runs scan is t asked reads).tested e p;
+      untested = λ none. then.untested p plain none;
+      tested = λ asked reads. (then.runs asked reads).tested e p;
     }))

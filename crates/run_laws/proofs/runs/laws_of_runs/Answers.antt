@@ -1,7 +1,7 @@
 -- Answers to the goals of `laws_of_runs`.
 use Rattle.run_laws.proofs.SparedRuns.{nothing_started}
 use Rattle.run_laws.proofs.StoppedRuns.{lasts, lasts_anew, end_acknowledged, start_acknowledged}
-use Rattle.run_laws.proofs.histories.laws_of_runs.Goals as goal
+use Rattle.run_laws.proofs.runs.laws_of_runs.Goals as goal
 
 pub returns-clause-lasts : goal.returns-clause-lasts
 returns-clause-lasts c = λ world order run first name kept readable step file counts. lasts world name kept order run first readable file counts step

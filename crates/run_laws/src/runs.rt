@@ -1,4 +1,4 @@
-//! The laws of histories.
+//! The laws of a run, whatever disk it finds, and of what a stop leaves.
 
 ghost use Rattle.std.specs.Prelude.{◌≡◌, ◌⊎◌, ℕ, Bool, ◌<◌, ◌++◌, [], ◌∷◌, false, List, length, slice_get, Some};
 ghost use Rattle.std.specs.List.{AllByRecursion};
@@ -13,49 +13,8 @@ ghost use Rattle.outside.specs.Commits.{last_state};
 ghost use Rattle.outside.specs.Phases.{IsCommitting};
 ghost use Rattle.run_spec.specs.ChildJournal.{built_at};
 ghost use Rattle.run_spec.specs.Commits.{record_at, commits};
-ghost use Rattle.run_spec.specs.Faithful.{IsFaithfulDisk};
-ghost use Rattle.run_spec.specs.Histories.{World, Sources, Order, ProgramRun, Stop, HistoryStep, Stopped, IsHistory, RunStep, IsBuildRun, IsReadable, IsMoment, IsLeft, empty_image, work_over};
-ghost use Rattle.run_laws.specs.Rights.{AllRight};
-ghost use Rattle.run_laws.specs.Spares.{IsAcknowledged, HasFile, HasFileAsked, AllSpare};
-
-/// What holds of every history of runs, edits of the sources, and stops by a loss of power or a kill of the program, with
-/// any number of children at once.
-pub fn laws_of_histories()
-    // From a disk that holds true records alone, each run is right: whatever a stop can leave has true records alone, and
-    // each start of it asks for its file what a clean build of its sources asks for it.
-    ensures right { (world : World) (sources : Sources) (disk : DiskState)
-        (steps : List HistoryStep) → IsReadable disk →
-        IsFaithfulDisk world.answer world.records_of disk →
-        IsHistory world sources disk steps → AllRight world sources disk steps }
-    // So it is from an empty disk.
-    ensures from_empty { (world : World) (sources : Sources) (steps : List HistoryStep) →
-        world.records_of empty_image ≡ [] →
-        IsHistory world sources (settled_disk empty_image) steps →
-        AllRight world sources (settled_disk empty_image) steps }
-    // Whatever its records say, no run starts a file of which is asked what its acknowledged record has.
-    ensures spares { (world : World) (sources : Sources) (disk : DiskState)
-        (steps : List HistoryStep) (name : FileName) (kept : Record) → IsReadable disk →
-        IsAcknowledged world name kept disk →
-        IsHistory world sources disk steps → AllSpare world name kept sources disk steps }
-    // So it is after a stop, of each record that was acknowledged at its moment,
-    ensures stopped { (world : World) (sources : Sources) (disk : DiskState) (run : ProgramRun)
-        (stop : Stop) (steps : List HistoryStep) (name : FileName) (kept : Record) →
-        IsHistory world sources disk (Stopped run stop ∷ steps) →
-        IsAcknowledged world name kept stop.moment →
-        AllSpare world name kept sources stop.disk steps }
-    // or at an earlier one of its run; in a run that builds all anew, of those that reads didn't give before it.
-    ensures stopped_since { (world : World) (sources : Sources) (disk : DiskState)
-        (run : ProgramRun) (stop : Stop) (steps : List HistoryStep) (order : Order)
-        (name : FileName) (kept : Record) → IsReadable disk →
-        IsHistory world sources disk (Stopped run stop ∷ steps) →
-        world.reading run.words sources ≡ Some order →
-        HasFileAsked world order disk name kept.asked →
-        (order.clean ≡ false)
-        ⊎ (latest name (world.records_of (reads_of disk)) ≡ Some kept → ⊥) →
-        (moment : DiskState) (is : IsMoment moment disk run.later) →
-        IsAcknowledged world name kept moment → IsMoment stop.moment moment is.after →
-        AllSpare world name kept sources stop.disk steps }
-{}
+ghost use Rattle.run_spec.specs.Histories.{World, Order, ProgramRun, RunStep, IsBuildRun, IsReadable, IsMoment, IsLeft, work_over};
+ghost use Rattle.run_laws.specs.Spares.{IsAcknowledged, HasFile, HasFileAsked};
 
 /// What holds within one run, whatever disk it finds.
 pub fn laws_of_runs()

@@ -1,8 +1,7 @@
 -- Answers to the goals of `laws_of_histories`.
-use Rattle.run_laws.proofs.RightRuns.{all_right, all_right_from_empty}
-use Rattle.run_laws.proofs.SparedRuns.{all_spare}
-use Rattle.run_laws.proofs.StoppedRuns.{since_spares, stopped_spares}
-use Rattle.run_laws.proofs.histories.laws_of_histories.Goals as goal
+use Rattle.run_tests.proofs.TestedRights.{tests_right}
+use Rattle.run_tests.proofs.HistorySteps.{all_right, all_right_from_empty, all_spare, stopped_spares, since_spares, joined}
+use Rattle.run_tests.proofs.histories.laws_of_histories.Goals as goal
 
 pub returns-clause-right : goal.returns-clause-right
 returns-clause-right c = λ world sources disk steps. all_right world steps sources disk
@@ -18,3 +17,9 @@ returns-clause-stopped c = stopped_spares
 
 pub returns-clause-stopped_since : goal.returns-clause-stopped_since
 returns-clause-stopped_since c = since_spares
+
+pub returns-clause-joined : goal.returns-clause-joined
+returns-clause-joined c = λ world sources disk steps more. joined world more steps sources disk
+
+pub returns-clause-tests : goal.returns-clause-tests
+returns-clause-tests c = tests_right
