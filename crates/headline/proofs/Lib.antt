@@ -9,4 +9,6 @@ pub mod SaidOfSizes
 pub mod Answered
 pub mod Examples
 mod ChainTruths
+mod Promises
+mod Turns
 mod GeneratedSizes

@@ -3,3 +3,4 @@ pub mod TrueViews
 pub mod SaidOfSizes
 pub mod SizeExamples
 pub mod Chains
+pub mod Promise

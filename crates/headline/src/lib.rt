@@ -4,12 +4,14 @@
 //! contract alone.
 #![tactic(auto)]
 
+mod all_runs;
 mod chains;
 mod generating;
 mod program_laws;
 mod size_laws;
 mod store_laws;
 
+pub use all_runs::{Between, run_all};
 pub use chains::{Outcomes, run_after_stop, run_twice};
 pub use generating::generate_project;
 pub use program_laws::laws_of_program;
