@@ -75,7 +75,7 @@ for crate, root in crates.items():
         for of, module, braces, alias in re.findall(use, text):
             if of in crates and not module.startswith("declared"):
                 modules |= {alias} - {""}
-                names |= {item.split()[-1]: item.split()[0] for item in filter(None, braces.split(","))}
+                names |= {item.split()[-1]: item.split()[0] for item in braces.split(",") if item.strip()}
         cited = [block(text, t.end() - 1) for t in re.finditer(r"^pub trait [^{]*\{", text, re.M)]
         for fn in re.finditer(r"^( *)pub (?:extern \"C\" )?fn (\w+)", text, re.M):
             types = re.findall(r"^impl(?:<[^{]*?>)? (\w+)", text[:fn.start()], re.M)
