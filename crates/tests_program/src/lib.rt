@@ -4,6 +4,8 @@
 #![tactic(auto)]
 
 #[cfg(test)]
+mod any_runs;
+#[cfg(test)]
 mod benches;
 #[cfg(test)]
 mod chains;

@@ -98,7 +98,7 @@ fn add_file(
     })
 }
 
-fn files_of(alloc: Global, stage: u8) -> Result<NamedTextList, NoMemory> {
+pub(super) fn files_of(alloc: Global, stage: u8) -> Result<NamedTextList, NoMemory> {
     let mut files: NamedTextList = Items::new(alloc);
     for row in FILES.lines() {
         if part(row, 0).as_bytes().contains(&stage) {
@@ -134,7 +134,7 @@ fn letter_of_fault(which: &OutsideObject) -> u8 {
 }
 
 /// The letter of an answer.
-fn letter(outcome: &Outcome) -> u8 {
+pub(super) fn letter(outcome: &Outcome) -> u8 {
     match outcome {
         Outcome::Done => b'd',
         Outcome::TestsFailed => b'f',
