@@ -25,11 +25,11 @@ abbrev NumberFits : ℕ → Type 0
 NumberFits n = n < 2 ^ 64
 
 -- one of two readings answered
-two_ways : {X : Type 0} (test : Bool) (one other : Option X) (x : X) → cond test one other ≡ Some x → ((test ≡ true) × (one ≡ Some x)) ⊎ ((test ≡ false) × (other ≡ Some x))
+pub two_ways : {X : Type 0} (test : Bool) (one other : Option X) (x : X) → cond test one other ≡ Some x → ((test ≡ true) × (one ≡ Some x)) ⊎ ((test ≡ false) × (other ≡ Some x))
 two_ways true one other x e = inl (refl, e)
 two_ways false one other x e = inr (refl, e)
 
-tag_takes : (bytes : List ℕ) (tag : ℕ) (left : List ℕ) → AreBytes bytes → byte_at bytes ≡ Some (tag, left) → (bytes ≡ tag ∷ left) × AreBytes left
+pub tag_takes : (bytes : List ℕ) (tag : ℕ) (left : List ℕ) → AreBytes bytes → byte_at bytes ≡ Some (tag, left) → (bytes ≡ tag ∷ left) × AreBytes left
 tag_takes [] tag left fits e = absurd (none-some (tag, left) e)
 tag_takes (first ∷ rest) tag left fits e =
     subst (λ (y : ℕ × List ℕ). (first ∷ rest ≡ y.0 ∷ y.1) × AreBytes y.1) (same_Some (first, rest) (tag, left) e) (refl, λ i. fits (suc i))
@@ -61,14 +61,14 @@ ref_by_takes tag bytes source left fits e =
       ]
     ]
 
-ref_takes : (bytes : List ℕ) (source : TextRef) (left : List ℕ) → AreBytes bytes → text_ref_at bytes ≡ Some (source, left) → Takes bytes (text_ref_bytes source) left × HasRefSpelling source
+pub ref_takes : (bytes : List ℕ) (source : TextRef) (left : List ℕ) → AreBytes bytes → text_ref_at bytes ≡ Some (source, left) → Takes bytes (text_ref_bytes source) left × HasRefSpelling source
 unfolding text_ref_at
 ref_takes bytes source left fits e =
     let a = bind_some (byte_at bytes) (λ tag. text_ref_by tag.0 tag.1) (source, left) e in
     let t = tag_takes bytes a.0.0 a.0.1 fits a.1 in
     subst (λ (bs : List ℕ). Takes bs (text_ref_bytes source) left × HasRefSpelling source) (sym t.0) (ref_by_takes a.0.0 a.0.1 source left t.1 a.2)
 
-ref_again : (source : TextRef) (left : List ℕ) → HasRefSpelling source → text_ref_at (text_ref_bytes source ++ left) ≡ Some (source, left)
+pub ref_again : (source : TextRef) (left : List ℕ) → HasRefSpelling source → text_ref_at (text_ref_bytes source ++ left) ≡ Some (source, left)
 unfolding text_ref_at text_ref_by ref_by_number_at ref_in_full_at text_ref_bytes
 ref_again (ByNumber number) left fits = rw (u64_again number left fits) refl
 ref_again (InFull text) left fits = rw (text_again text left fits) refl

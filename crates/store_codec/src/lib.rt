@@ -11,6 +11,6 @@ pub use laws::{laws_of_record_tables, laws_of_request_payloads};
 pub use layout::{RequestLayout, request_layout};
 pub use reading::{PayloadRanges, ProductRanges, RequestRanges, read_request_payload};
 pub use writing::{
-    ProductParts, RequestParts, TextPart, product_payload, request_payload, spelled_words,
-    write_request,
+    ProductParts, RequestParts, TextPart, product_payload, put_part, request_payload,
+    spelled_words, write_request,
 };

@@ -65,7 +65,7 @@ fn put_numbers(out: &mut ByteWriter, numbers: &[usize]) -> Result<(), NoMemory>
 
 /// Writes a text that is there by its number, or a new text.
 #[tactic(auto, unfolding(crate::specs::Forms::text_ref_bytes))]
-fn put_part(out: &mut ByteWriter, part: TextPart<'_>) -> Result<(), NoMemory>
+pub fn put_part(out: &mut ByteWriter, part: TextPart<'_>) -> Result<(), NoMemory>
     requires { HasPartSizes part }
     ensures { OnOk result (out.new ≡ out.old ++ text_ref_bytes (part_ref part.entry)) }
 {
