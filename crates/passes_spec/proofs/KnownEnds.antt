@@ -20,9 +20,9 @@ use Rattle.testbench_runs.specs.declared.ends.Verdict.TheVariants.{Passed, Faile
 use Rattle.testbench_runs.specs.declared.ends.TheConstants.{SHOWN_LIMIT}
 use Rattle.testbench_runs.specs.BenchJobs.{bench_request}
 use Rattle.testbench_runs.specs.Runs.{case_names, counted_cases, name_of_case}
-use Rattle.testbench_runs.specs.Verdicts.{case_starts, case_verdict, ended_run, ends_well, is_passed, is_passed_verdict, result_lines, run_verdicts, verdicts}
+use Rattle.testbench_runs.specs.Verdicts.{case_starts, case_verdict, ended_run, ends_well, is_passed, is_passed_verdict, result_lines, run_verdicts, started_ends, verdicts}
 use Rattle.passes_spec.specs.Passes.{Pass, IsTruePass, last_pass, request_of_pass, last_passes}
-use Rattle.passes_spec.specs.KnownRuns.{ends_after, end_or, is_current, is_same_file, is_same_run, left_if, merged_ends, output_for, output_if, passed_run, recalled, runs_left, started_ends}
+use Rattle.passes_spec.specs.KnownRuns.{ends_after, end_or, is_current, is_same_file, is_same_run, left_if, merged_ends, output_for, output_if, passed_run, recalled, runs_left}
 use Rattle.passes_spec.specs.PassImages.{HasPasses, IsBase}
 use Rattle.passes_spec.proofs.SameTests.{All-last, All-last_passes, last_of_last_passes}
 

@@ -3,16 +3,13 @@ use Rattle.std.specs.Prelude.{ℕ, Bool, ◌&&◌, true, false, List, [], ◌∷
 use Rattle.std.specs.Str.{bytes_eq}
 use Rattle.std.specs.Cmp.Lexicographic.{pointwise}
 use Rattle.std.proofs.Math.Bool.{beq}
-use Rattle.base.specs.declared.child.Request.{Request}
-use Rattle.base.specs.declared.child.Exit.{Exit}
 use Rattle.base.specs.declared.graph.BuiltFile.{BuiltFile}
 use Rattle.base.specs.Names.{is_same_name}
 use Rattle.testbench_runs.specs.declared.runs.TestRun.{TestRun}
 use Rattle.testbench_runs.specs.declared.ends.RunEnd.{RunEnd}
 use Rattle.testbench_runs.specs.declared.ends.Verdict.TheVariants.{Passed}
-use Rattle.testbench_runs.specs.BenchJobs.{bench_request}
 use Rattle.testbench_runs.specs.Runs.{case_names}
-use Rattle.testbench_runs.specs.Verdicts.{ended_run, unstarted_run}
+use Rattle.testbench_runs.specs.Verdicts.{unstarted_run}
 use Rattle.passes_spec.specs.Passes.{Pass, last_pass}
 
 -- ## What is recalled
@@ -74,7 +71,3 @@ ends_after None ends = drop 1 ends
 unfoldable pub merged_ends : (TestRun → Option (List ℕ)) → List TestRun → List RunEnd → List RunEnd
 merged_ends known [] ends = []
 merged_ends known (run ∷ runs) ends = end_or (known run) run ends ∷ merged_ends known runs (ends_after (known run) ends)
-
--- the end of each run with a simulator over built files, where all are started
-abbrev pub started_ends : (Request → Exit) → List (List ℕ) → List BuiltFile → List TestRun → List RunEnd
-started_ends answer simulator built runs = map (λ run. ended_run run (answer (bench_request run simulator built))) runs

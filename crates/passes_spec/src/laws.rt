@@ -6,15 +6,9 @@ ghost use Rattle.base.specs.declared.child.Exit.{Exit};
 ghost use Rattle.base.specs.declared.graph.BuiltFile.{BuiltFile};
 ghost use Rattle.testbench_runs.specs.declared.runs.TestRun.{TestRun};
 ghost use Rattle.testbench_runs.specs.BenchJobs.{bench_request};
-ghost use Rattle.testbench_runs.specs.Verdicts.{ended_run, is_passed};
+ghost use Rattle.testbench_runs.specs.Verdicts.{ended_run, is_passed, started_ends};
 ghost use Rattle.passes_spec.specs.Passes.{Pass, IsTruePass, last_passes, pass_of_end};
-ghost use Rattle.passes_spec.specs.KnownRuns.{
-  recalled,
-  passed_run,
-  runs_left,
-  merged_ends,
-  started_ends,
-};
+ghost use Rattle.passes_spec.specs.KnownRuns.{recalled, passed_run, runs_left, merged_ends};
 ghost use Rattle.passes_spec.specs.PassImages.{HasPasses};
 
 /// What holds of runs that are known to pass, over true passes.

@@ -5,10 +5,9 @@ use Rattle.base.specs.declared.child.Request.{Request}
 use Rattle.base.specs.declared.child.Exit.{Exit}
 use Rattle.base.specs.declared.child.Event.{Event}
 use Rattle.base.specs.declared.graph.BuiltFile.{BuiltFile}
-use Rattle.testbench_runs.specs.BenchJobs.{bench_request}
 use Rattle.testbench_runs.specs.declared.runs.TestRun.{TestRun}
 use Rattle.testbench_runs.specs.declared.ends.RunEnd.{RunEnd}
-use Rattle.testbench_runs.specs.Verdicts.{ended_run, unstarted_run}
+use Rattle.testbench_runs.specs.Verdicts.{ended_run, started_ends, unstarted_run}
 use Rattle.run_spec.specs.TestJournal.{TestPlan, TestSetting, TestExit, progress_of_tests}
 
 -- the exit of the run at a position, which ends at most once
@@ -32,4 +31,4 @@ test_ends setting events = run_ends (run_exit (progress_of_tests setting events)
 
 -- what becomes of the runs of a plan over these files, where each exit is the answer to the request of its run
 abbrev pub steady_ends : (Request → Exit) → TestPlan → List BuiltFile → List RunEnd
-steady_ends answer plan built = map (λ run. ended_run run (answer (bench_request run plan.simulator built))) plan.runs
+steady_ends answer plan built = started_ends answer plan.simulator built plan.runs

@@ -4,6 +4,7 @@ use Rattle.std.specs.List.{filter_map, last_or, list_all, list_any, slice_split}
 use Rattle.std.specs.Option.{option_map_or}
 use Rattle.std.specs.Str.{bytes_eq}
 use Rattle.std.specs.Str.Lines.{strip_carriage_return}
+use Rattle.base.specs.declared.child.Request.{Request}
 use Rattle.base.specs.declared.child.Exit.{Exit}
 use Rattle.base.specs.declared.child.MaybeText.{MaybeText}
 use Rattle.base.specs.declared.child.MaybeText.TheVariants.{Nothing, Given}
@@ -12,6 +13,8 @@ use Rattle.testbench_runs.specs.declared.ends.Verdict.TheVariants.{Passed, Faile
 use Rattle.testbench_runs.specs.declared.ends.RunEnd.{RunEnd}
 use Rattle.testbench_runs.specs.declared.ends.TheConstants.{SHOWN_LIMIT}
 use Rattle.testbench_runs.specs.declared.runs.TestRun.{TestRun}
+use Rattle.base.specs.declared.graph.BuiltFile.{BuiltFile}
+use Rattle.testbench_runs.specs.BenchJobs.{bench_request}
 use Rattle.testbench_runs.specs.Runs.{case_names}
 
 -- ## Lines
@@ -93,3 +96,7 @@ ended_run run exit = record { names = case_names run; verdicts = run_verdicts ru
 -- what became of a run that was never started: each case is skipped
 abbrev pub unstarted_run : TestRun → RunEnd
 unstarted_run run = record { names = case_names run; verdicts = map (λ name. Skipped) (case_names run); output = [] }
+
+-- the end of each run with a simulator over built files, if all are started
+abbrev pub started_ends : (Request → Exit) → List (List ℕ) → List BuiltFile → List TestRun → List RunEnd
+started_ends answer simulator built runs = map (λ run. ended_run run (answer (bench_request run simulator built))) runs
