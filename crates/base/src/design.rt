@@ -84,7 +84,7 @@ pub struct Unit {
 
 pub type UnitList = Items<Unit>;
 
-/// What is known of the text of a file: its tokens and its design units.
+/// The tokens and the design units of the text of a file.
 #[derive(Drop)]
 pub struct Scan {
     pub tokens: Tokens,
@@ -93,7 +93,7 @@ pub struct Scan {
 
 pub type Scans = Items<Scan>;
 
-/// Why tokens are no design file. `at` is the byte at which the token begins.
+/// Why tokens don't form a design file. `at` is the byte at which the token begins.
 #[derive(Clone, Copy, Debug, PartialEq, Eq, Error)]
 pub enum UnitFault {
     /// The token begins neither a context item nor a unit.

@@ -7,8 +7,8 @@ use crate::{FILE_LIMIT, FileName, NoMemory, Positions, Text, TextList};
 use std::alloc::Global;
 use std::marker::Model;
 
-/// A file as it is compiled: its name, the words of its compiler, its text, and the positions in compile order
-/// of all files that it depends on, directly or not.
+/// A file of a graph: its name, the words of its compiler's command, its text, and its dependencies. These are the positions in
+/// compile order of all files that it depends on, directly or indirectly.
 #[derive(Drop)]
 pub struct Entry {
     pub name: FileName,

@@ -1,8 +1,8 @@
-//! Projects, and what is wrong with a project file.
+//! Projects, and the faults of a project file.
 
 use crate::{FileName, Items, Text, TextList};
 
-/// A file of a project, and the words of its compiler.
+/// A file of a project, and the words of its compiler's command.
 #[derive(Drop)]
 pub struct ProjectFile {
     pub name: FileName,
