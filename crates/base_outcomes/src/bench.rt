@@ -1,4 +1,4 @@
-//! Test benches, their cases, and what is wrong with them.
+//! Test benches, their cases, and the faults of benches.
 
 use base::{Items, Text};
 
@@ -30,7 +30,7 @@ pub struct Bench {
 
 pub type Tests = Items<Bench>;
 
-/// What is wrong with the benches of a project.
+/// A fault in the benches of a project.
 #[derive(Debug, Drop)]
 pub enum TestFault {
     /// The bench has more than one architecture.
@@ -39,6 +39,6 @@ pub enum TestFault {
     NoArchitecture { bench: Text },
     /// Two cases have this full name.
     DuplicateTest { name: Text },
-    /// The bench has a case whose name is none.
+    /// The bench has a case with an invalid name.
     BadName { bench: Text },
 }

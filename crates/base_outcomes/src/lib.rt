@@ -1,4 +1,4 @@
-//! The tests of VHDL sources as types: benches, their cases, and what is wrong with them.
+//! The tests of VHDL sources as types: benches, their cases, and the faults of benches.
 //! The answers of a run as types, apart from what they are about, so that only crates that answer stand on them.
 #![tactic(auto)]
 

@@ -3,25 +3,25 @@
 use crate::TestFault;
 use base::{FileList, FileName, LexFault, ProjectFault, Text, UnitFault};
 
-/// What is wrong with the sources, or with the files that the compiler refused.
+/// Why a project is refused: a fault in its sources, or files that the compiler refused.
 #[derive(Drop)]
 pub enum Refusal {
     /// There is no project file.
     NoProject,
-    /// The fault is never out of memory.
+    /// The project file has a fault.
     Project {
         fault: ProjectFault,
     },
-    /// A file of the project isn't there.
+    /// A file of the project doesn't exist.
     AbsentFile {
         file: FileName,
     },
-    /// A file has a lexical fault, which is never out of memory.
+    /// A file has a lexical fault.
     Lex {
         file: FileName,
         fault: LexFault,
     },
-    /// A file has a fault of the unit grammar, which is never out of memory.
+    /// A file has a fault of the unit grammar.
     Units {
         file: FileName,
         fault: UnitFault,
@@ -49,7 +49,7 @@ pub enum Refusal {
     Cycle {
         files: FileList,
     },
-    /// What is wrong with the benches. The fault is never out of memory.
+    /// A fault in the benches.
     Tests {
         fault: TestFault,
     },
