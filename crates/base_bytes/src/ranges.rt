@@ -20,7 +20,7 @@ pub(crate) fn rest_from(bytes: &[u8], at: usize) -> &[u8]
     &bytes[at..]
 }
 
-/// The bytes of a range, as far as they are there.
+/// The bytes of a range. If the bytes end before the range does, only the bytes up to their end.
 pub fn bytes_in(bytes: &[u8], range: ByteRange) -> &[u8]
     ensures { result.now ≡ ranged bytes.now range }
 {

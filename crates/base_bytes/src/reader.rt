@@ -9,7 +9,7 @@ use base::{FileName, NoMemory, Text};
 use std::alloc::Global;
 use std::marker::Model;
 
-/// Bytes that are read from start to end. Contracts see those that remain.
+/// Bytes that are read from start to end. Contracts see the bytes that remain.
 #[derive(Drop)]
 pub struct ByteReader<'a> {
     left: &'a [u8],
@@ -31,7 +31,7 @@ impl<'a> ByteReader<'a> {
         ByteReader { left: bytes }
     }
 
-    /// So many bytes as they are, or none where fewer remain.
+    /// The next `count` bytes, or `None` if fewer remain.
     pub fn take(&mut self, count: usize) -> Option<&'a [u8]>
         ensures { Reads (λ bytes. bytes.now) result self.new (taken_at count self.old) }
     {
@@ -43,7 +43,7 @@ impl<'a> ByteReader<'a> {
         Some(prefix)
     }
 
-    /// A number of four bytes, the low one first, or none where fewer remain.
+    /// A number of four bytes, the low one first, or `None` if fewer remain.
     pub fn u32(&mut self) -> Option<u32>
         ensures { Reads (λ number. number) result self.new (number_at w32 self.old) }
     {
@@ -55,7 +55,7 @@ impl<'a> ByteReader<'a> {
         Some(u32::from_le_bytes([prefix[0], prefix[1], prefix[2], prefix[3]]))
     }
 
-    /// A number of eight bytes, the low one first, or none where fewer remain.
+    /// A number of eight bytes, the low one first, or `None` if fewer remain.
     pub fn u64(&mut self) -> Option<u64>
         ensures { Reads (λ number. number) result self.new (number_at w64 self.old) }
     {
@@ -69,7 +69,7 @@ impl<'a> ByteReader<'a> {
         ]))
     }
 
-    /// A text: a length in four bytes, and that many bytes; or none where fewer remain.
+    /// A text: a length in four bytes, and that many bytes; or `None` if fewer remain.
     #[tactic(auto, unfolding(crate::specs::Reading::text_at))]
     pub fn text(&mut self) -> Option<&'a [u8]>
         ensures { Reads (λ bytes. bytes.now) result self.new (text_at self.old) }
@@ -78,7 +78,7 @@ impl<'a> ByteReader<'a> {
         self.take(count as usize)
     }
 
-    /// A text of its own: a length in four bytes, and that many bytes; or none where fewer remain.
+    /// A copy of a text: a length in four bytes, and that many bytes; or `None` if fewer remain.
     pub fn owned_text(&mut self, alloc: Global) -> Result<Option<Text>, NoMemory>
         ensures { IfOk result (λ text. Reads (λ bytes. bytes) text self.new (text_at self.old)) }
     {
@@ -88,7 +88,7 @@ impl<'a> ByteReader<'a> {
         Ok(Some(Text::from_slice(alloc, bytes)?))
     }
 
-    /// A name of a file: the texts of its library and its path; or none where bytes are missing.
+    /// A name of a file: the texts of its library and its path; or `None` if bytes are missing.
     #[tactic(auto, unfolding(crate::specs::Names::name_at))]
     pub fn name(&mut self, alloc: Global) -> Result<Option<FileName>, NoMemory>
         ensures { IfOk result (λ name. Reads (λ same. same) name self.new (name_at self.old)) }

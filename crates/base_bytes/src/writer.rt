@@ -24,7 +24,7 @@ impl Model for ByteWriter {
 }
 
 impl ByteWriter {
-    /// Nothing is written yet; this takes no memory.
+    /// An empty writer, which takes no memory.
     pub fn new(alloc: Global) -> ByteWriter
         ensures { result ≡ [] }
     {
@@ -33,7 +33,7 @@ impl ByteWriter {
         }
     }
 
-    /// Nothing is written yet, in room for so many bytes.
+    /// An empty writer with room for `size` bytes.
     pub fn with_room(alloc: Global, size: usize) -> Result<ByteWriter, NoMemory>
         ensures { IfOk result (λ out. out ≡ []) }
     {
@@ -58,7 +58,7 @@ impl ByteWriter {
         Ok(())
     }
 
-    /// Writes bytes as they are.
+    /// Writes bytes without their length.
     pub fn plain(&mut self, bytes: &[u8]) -> Result<(), NoMemory>
         ensures { OnOk result (self.new ≡ self.old ++ bytes.now) }
     {
