@@ -2,8 +2,8 @@
 //! Sets of positions of files, as bits.
 //! Things by number: keys in the order in which they came, and sets of numbers.
 //! Fingerprints of texts, and an index from fingerprints to the numbers of those texts that have them.
-//! An index of texts that lie elsewhere: a text is looked for by one walk over halves of its bytes, which ends at the only
-//! number that it can have, and is then compared once, whatever the other texts are.
+//! An index of texts that are stored elsewhere. A lookup is one walk over halves of a text's bytes, which ends at the only number
+//! that the text can have. The text is then compared once, whatever the other texts are.
 //! Keys by number and values by key, found in n log n of time whatever the keys are.
 #![tactic(auto)]
 

@@ -28,7 +28,7 @@ impl<K: Key, V: Copy> Model for KeyMap<K, V> {
 }
 
 impl<K: Key, V: Copy> KeyMap<K, V> {
-    /// No key, which takes no memory.
+    /// An empty map, which takes no memory.
     pub fn new(alloc: Global) -> KeyMap<K, V>
         ensures empty { result ≡ record { keys = []; values = [] } }
         ensures none { (key : K) → get K.eq result key ≡ None }
@@ -39,7 +39,7 @@ impl<K: Key, V: Copy> KeyMap<K, V> {
         }
     }
 
-    /// No key, with a table for so many, or more. Most are then found at their buckets.
+    /// An empty map with a table for `count` keys; it can hold more. Most keys are then found at their buckets.
     pub fn with_room(alloc: Global, count: usize) -> Result<KeyMap<K, V>, NoMemory>
         ensures empty { IfOk result (λ map. map ≡ record { keys = []; values = [] }) }
         ensures none { IfOk result (λ map. (key : K) → get K.eq map key ≡ None) }

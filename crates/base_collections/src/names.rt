@@ -10,14 +10,14 @@ use std::alloc::Global;
 use std::collections::BTreeSet;
 use std::marker::Model;
 
-/// A name of a file, as it is compared: by library, and then by path.
+/// A name of a file, ordered by library and then by path.
 #[derive(PartialEq, Eq, PartialOrd, Ord, Drop)]
 struct Key {
     library: Vec<u8>,
     path: Vec<u8>,
 }
 
-/// A set of names of files. Contracts see a list of them, in an order that is no promise: they ask what it has.
+/// A set of names of files. Contracts see a list of the names in an unspecified order, and ask only which names it contains.
 #[derive(Drop)]
 pub struct NameSet {
     alloc: Global,

@@ -67,7 +67,7 @@ impl<K: NumberedKey> Numbered<K> {
         &self.keys.as_slice()[number]
     }
 
-    /// The number of a key, which is added at the end where it has none. After `NoMemory` the keys are unchanged.
+    /// The number of a key. A new key is added at the end. After `NoMemory` the keys are unchanged.
     pub fn add(&mut self, key: K) -> Result<usize, NoMemory>
         ensures ok { IfOk result (λ number. IsNumbered key number self.old.keys self.new.keys) }
         ensures err { OnErr result (self.new.keys ≡ self.old.keys) }

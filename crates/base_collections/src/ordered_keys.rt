@@ -27,7 +27,7 @@ pub trait Key: Ord + Hash + Drop {
     ghost decides: { (a b : Self) → Decides (Self.eq a b) (a ≡ b) };
 }
 
-/// The number that a key has among others, where it takes one if it has none: one search in all.
+/// The number of a key in the map `others`. A key that is not in the map is inserted with `number`. Both take one search.
 fn take_other<K: Key>(
     others: &mut BTreeMap<K, usize>,
     key: K,
@@ -56,8 +56,8 @@ fn other_number<K: Key>(others: &BTreeMap<K, usize>, key: &K) -> Option<usize>
 
 /// Keys, each once, numbered from 0 in the order in which they came. Contracts see them.
 ///
-/// A key is found at one of its two buckets in a table, if there is one. What keys are at neither, be it by chance or because
-/// they were chosen to, is found by an ordered map. So looking keys up takes n log n comparisons in all, whatever they are.
+/// A key is found at one of its two buckets in a table, if that has buckets. Keys that are at neither bucket are found by an ordered
+/// map, whether they collide by chance or were chosen to. So looking keys up takes n log n comparisons in all, whatever they are.
 #[derive(Drop)]
 pub struct KeyNumbers<K: Key> {
     alloc: Global,
@@ -81,7 +81,7 @@ impl<K: Key> Model for KeyNumbers<K> {
 }
 
 impl<K: Key> KeyNumbers<K> {
-    /// No key, which takes no memory. Keys are found by the ordered map alone.
+    /// No keys, which takes no memory. Keys are then found by the ordered map alone.
     pub fn new(alloc: Global) -> KeyNumbers<K>
         ensures { result ≡ [] }
     {
@@ -93,7 +93,7 @@ impl<K: Key> KeyNumbers<K> {
         }
     }
 
-    /// No key, with a table for so many, or more. Most are then found at their buckets.
+    /// No keys, with a table for `count` keys; more can be added. Most keys are then found at their buckets.
     pub fn with_room(alloc: Global, count: usize) -> Result<KeyNumbers<K>, NoMemory>
         ensures { IfOk result (λ keys. keys ≡ []) }
     {
@@ -135,8 +135,7 @@ impl<K: Key> KeyNumbers<K> {
         self.find(hash_of(key), key)
     }
 
-    /// The number of a key that has a hash, which is added at the end where it has none. After `NoMemory` the keys are
-    /// unchanged.
+    /// The number of a key with this hash. A new key is added at the end. After `NoMemory` the keys are unchanged.
     fn take(&mut self, hash: u64, key: K) -> Result<usize, NoMemory>
         requires { hash ≡ hash_of (K.hash_input key) }
         ensures ok { IfOk result (λ number. TakesNumber key number self.old self.new) }
@@ -168,7 +167,7 @@ impl<K: Key> KeyNumbers<K> {
         }
     }
 
-    /// The number of a key, which is added at the end where it has none. After `NoMemory` the keys are unchanged.
+    /// The number of a key. A new key is added at the end. After `NoMemory` the keys are unchanged.
     pub fn add(&mut self, key: K) -> Result<usize, NoMemory>
         ensures ok { IfOk result (λ number. TakesNumber key number self.old self.new) }
         ensures number { IfOk result (λ number. number ≡ position_or_len (K.eq key) self.old) }

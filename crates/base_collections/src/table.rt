@@ -6,8 +6,10 @@ ghost use Rattle.base_collections.specs.OrderedKeys.{IsLooked, first_of, hash_of
 use crate::ordered_keys::Key;
 use std::hash::{FoldHasher, Hash, Hasher};
 
-/// What a look at the two buckets of a key shows: its number, or that it isn't there and that one of them is free, or that
-/// other keys are at both, or that there are no buckets.
+/// The result of looking at the two buckets of a key.
+/// - `At`: the key is at a bucket, and has this number.
+/// - `Free`: the key was not found, and this bucket is free.
+/// - `Nowhere`: other keys are at both buckets, or there are no buckets.
 #[derive(Clone, Copy)]
 pub enum Found {
     At(usize),
@@ -25,7 +27,7 @@ pub fn hash_of<K: Key>(key: &K) -> u64
     state.finish()
 }
 
-/// The number of the key at a bucket, if there is one. One more than it is kept, and 0 for none.
+/// The number of the key at a bucket, if there is one. A bucket holds the number plus one, or 0 if it is free.
 fn slot_at(slots: &[u32], at: usize) -> Option<usize>
     ensures { result ≡ slot_at slots.now at }
 {

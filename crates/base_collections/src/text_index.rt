@@ -59,7 +59,7 @@ impl TextIndex {
         walk(&self.splits, &self.firsts, &self.nexts, text)
     }
 
-    /// Makes room for so many more splits. The splits are unchanged.
+    /// Makes room for `count` more splits. The splits are unchanged.
     pub fn reserve(&mut self, count: usize) -> Result<(), NoMemory>
         ensures same { self.new.splits ≡ self.old.splits }
         ensures room { OnOk result (count ≤ self.new.room) }
@@ -71,7 +71,7 @@ impl TextIndex {
         Ok(())
     }
 
-    /// Adds the split of a text at the end, which leaves that of a lower number. It takes no memory.
+    /// Adds the split at which a new text leaves the text of a lower number. It takes no memory.
     pub fn put(&mut self, split: Split)
         requires room { 0 < self.old.room }
         requires of { 0 < length self.old.splits → split.of < length self.old.splits }

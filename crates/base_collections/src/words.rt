@@ -31,7 +31,7 @@ pub(crate) fn without_bit(word: u64, k: u32) -> u64
     word & !(1 << k)
 }
 
-/// The word without its first bits: each other bit is moved down by so many indices.
+/// The word without its first `by` bits: each other bit is moved down by `by` indices.
 pub(crate) fn moved_down(word: u64, by: u32) -> u64
     requires { by < 64 }
     ensures down { (i : ℕ) → bit_at result i ≡ bit_at word (by + i) }
