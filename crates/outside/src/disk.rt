@@ -48,8 +48,8 @@ pub trait Disk {
         ensures cause { DiskCounts result (failed_disk_calls self.old)
             (failed_disk_calls self.new) };
 
-    /// Writes over what is there, and past the end. Until a sync, each byte that it reaches may be any. A write
-    /// that would end at 2^63 or above fails, and reaches none.
+    /// Overwrites bytes from an offset on, and appends those past the end. Until a sync, each byte that it reaches may have any
+    /// value. A write that would end at 2^63 or above fails, and reaches no byte.
     fn write(&mut self, side: Side, at: u64, bytes: &[u8]) -> Result<(), DiskFailed>
         requires { tells → (at ≤ length (side_of side (moments self.old).now).reads) }
         ensures fits { OnOk result (at + length bytes.now < 2 ^ 63) }

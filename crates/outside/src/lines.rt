@@ -10,7 +10,7 @@ fn line_feed(bytes: &[u8]) -> Option<usize>
     bytes.iter().position(|byte| *byte == b'\n')
 }
 
-/// How many bytes come before the first line feed: all of them where there is none.
+/// The number of bytes before the first line feed, or of all bytes if there is no line feed.
 pub fn line_length(bytes: &[u8]) -> usize
     ensures length { result ≡ position_or_len is_line_feed bytes.now }
     ensures within { result ≤ length bytes.now }

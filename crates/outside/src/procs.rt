@@ -1,4 +1,4 @@
-//! Children: how they are started and waited for, and what is told of those that ended.
+//! Children: how they are started and waited for, and how each ended.
 ghost use Rattle.std.specs.Prelude.{◌≡◌, ℕ, ◌<◌, List, ◌++◌, [], ◌∷◌, length, IfOk, Contains};
 ghost use Rattle.base.specs.declared.child.Request.{Request};
 ghost use Rattle.base.specs.declared.child.Exit.{Exit};
@@ -75,7 +75,7 @@ pub trait Procs {
         ensures cause { ChildCounts result (lost_children self.old) (lost_children self.new) }
         ensures starts { failed_starts self.new ≡ failed_starts self.old };
 
-    /// So many starts more may come, which only what shows progress looks at.
+    /// Announces that `_starts` more starts may come. Only an implementation that shows progress uses this.
     fn announce_starts(&mut self, _starts: u64)
         ensures running { running self.new ≡ running self.old }
         ensures journal { journal self.new ≡ journal self.old }
@@ -84,7 +84,7 @@ pub trait Procs {
         ensures children { lost_children self.new ≡ lost_children self.old }
     {}
 
-    /// One of these starts isn't needed.
+    /// Announces that one of these starts isn't needed.
     fn skip_start(&mut self)
         ensures running { running self.new ≡ running self.old }
         ensures journal { journal self.new ≡ journal self.old }
@@ -93,7 +93,8 @@ pub trait Procs {
         ensures children { lost_children self.new ≡ lost_children self.old }
     {}
 
-    /// A start that may come later names this path for its results. Only what warns of names that are too long looks at it.
+    /// Announces the path that a later start may name for its results. Only an implementation that warns of names that are too
+    /// long uses this.
     fn announce_results(&mut self, _alloc: Global, _path: &[u8])
         ensures running { running self.new ≡ running self.old }
         ensures journal { journal self.new ≡ journal self.old }

@@ -51,8 +51,8 @@ impl From<DiskFailed> for StoreFault {
     }
 }
 
-/// Records of compiled files on a disk: of each what the compiler was asked, and what it gave. The last record of a name
-/// counts. A store knows where it has the files of one graph. After `DiskFailed` it is broken until it is opened again.
+/// Records of compiled files on a disk. A record has the inputs of a compilation and its artefact. The last record of a name counts.
+/// A store knows where it has the files of one graph. After `DiskFailed` it is broken until it is opened again.
 pub trait Records: Sized {
     /// A record that is ready to be committed.
     type Prepared;
@@ -60,7 +60,7 @@ pub trait Records: Sized {
     /// The records that an image of a disk holds, in order.
     ghost records_of: { Image → List Record };
 
-    /// What opening leaves as it is: an image with nothing that is due to be written.
+    /// The images that opening doesn't change, because no write is due.
     ghost is_resting: { Image → Type 0 };
 
     /// The latest record of a name.
@@ -193,7 +193,7 @@ pub trait OpenRecords<'g>: Records {
         ensures records { D.tells →
             let before = Self.records_of (reads_of (D.moments disk.old).now) in
             OnOk result (IsAllOrLatest before (Self.records_of (reads_of (D.moments disk.new).now))) }
-        // Where reads give an image that opening leaves as it is, nothing is written.
+        // If reads give an image that opening doesn't change, nothing is written.
         ensures rests { D.tells →
             Self.is_resting (reads_of (D.moments disk.old).now) →
             Rests result (D.moments disk.old) (D.moments disk.new) }

@@ -13,7 +13,7 @@ pub enum NamesEnd {
     TooMany,
 }
 
-/// The bytes of a file, or why there are none.
+/// The bytes of a file, or why they were not read.
 #[derive(Drop)]
 pub enum ReadEnd {
     Got(Text),
@@ -63,8 +63,8 @@ pub trait Tree {
         ensures asked { asked self.new ≡ asked self.old }
         ensures cause { TreeCounts result (failed_reads self.old) (failed_reads self.new) };
 
-    /// The bytes of a file, `Absent` exactly where the tree has none of that path, or `TooLong` exactly where it has
-    /// more than `limit` bytes.
+    /// The bytes of a file. The answer is `Absent` exactly if the tree has no file of that path, and `TooLong` exactly if the file
+    /// has more than `limit` bytes.
     fn read(&mut self, alloc: Global, path: &Text, limit: u64) -> Result<ReadEnd, TreeFault>
         ensures size { IfOk result (FitsReadLimit limit) }
         ensures bytes { tells →
