@@ -16,11 +16,11 @@ use std::alloc::Global;
 pub struct ReadyFiles {
     /// The files that wait.
     waiting: Vec<bool>,
-    /// Of each file that waits how much of what it depends on isn't done.
+    /// For each file that waits, the number of its dependencies that aren't done.
     missing: Vec<usize>,
-    /// Of each file those that depend on it.
+    /// For each file, the files that depend on it.
     users: Vec<Positions>,
-    /// The files that wait and that nothing is missing for.
+    /// The files that wait and whose dependencies are all done.
     ready: PositionSet,
     ghost few: { length waiting.items ≤ FILE_LIMIT },
     ghost as_many_missing: { length missing.items ≡ length waiting.items },
@@ -54,7 +54,7 @@ impl ReadyFiles {
         })
     }
 
-    /// A file that depends on none so far depends on these, of which so many aren't done.
+    /// Sets the dependencies of a file that had no dependencies so far. `missing` is how many of them aren't done.
     pub fn depends(&mut self, file: u32, deps: &[u32], missing: usize) -> Result<(), NoMemory>
         requires file { file < file_count self.old }
         requires deps { All (λ dep. dep < file_count self.old) deps.now }

@@ -8,7 +8,7 @@ use base::{FILE_LIMIT, NoMemory, Positions};
 use base_collections::PositionSet;
 use std::alloc::Global;
 
-/// An empty list for each of so many files.
+/// An empty list for each of `count` files.
 pub(crate) fn no_users(alloc: Global, count: usize) -> Result<Vec<Positions>, NoMemory>
     ensures count { IfOk result (λ users. length users.items ≡ count) }
     ensures none { IfOk result (λ users. (dep file : ℕ) →
@@ -48,7 +48,7 @@ pub(crate) fn add_users(users: &mut Vec<Positions>, deps: &[u32], file: u32) -> 
     Ok(())
 }
 
-/// The files that wait and that nothing is missing for.
+/// The files that wait and whose dependencies are all done.
 pub(crate) fn ready_files(waiting: &[bool], missing: &[usize]) -> PositionSet
     requires few { length waiting.now ≤ FILE_LIMIT }
     requires as_many { length missing.now ≡ length waiting.now }
@@ -65,7 +65,7 @@ pub(crate) fn ready_files(waiting: &[bool], missing: &[usize]) -> PositionSet
     ready
 }
 
-/// Takes a file out of those that wait.
+/// Notes that a file no longer waits.
 pub(crate) fn take_out(waiting: &mut Vec<bool>, ready: &mut PositionSet, file: u32)
     requires few { length waiting.old.items ≤ FILE_LIMIT }
     requires at { file < length waiting.old.items }
@@ -77,7 +77,7 @@ pub(crate) fn take_out(waiting: &mut Vec<bool>, ready: &mut PositionSet, file: u
     ready.remove(file);
 }
 
-/// So much of what a file depends on isn't done.
+/// Sets how many dependencies of a file aren't done.
 pub(crate) fn set_missing(
     file: u32,
     count: usize,
@@ -102,7 +102,7 @@ pub(crate) fn set_missing(
     }
 }
 
-/// One of what a file depends on is done.
+/// Notes that one dependency of a file is done.
 fn lower_one(user: u32, waiting: &[bool], missing: &mut Vec<usize>, ready: &mut PositionSet)
     requires few { length waiting.now ≤ FILE_LIMIT }
     requires as_many { length missing.old.items ≡ length waiting.now }

@@ -1,4 +1,4 @@
-//! What is left to be taken of the files of a project, and which file is taken next.
+//! The files of a project that are not yet taken, and which file is taken next.
 
 ghost use Rattle.std.specs.Prelude.{◌≡◌, ℕ, List, [], ◌∷◌, ◌++◌, ◌<◌, ◌≤◌, false, length, IfOk, OnOk};
 ghost use Rattle.std.specs.Option.{IfSome};
