@@ -88,8 +88,8 @@ pub fn laws_of_units()
         length (units_of text tokens elements) ≤ length tokens }
 {}
 
-/// The visible libraries of the units of a list are closed, they are within all closed sets, and what is seen after any
-/// number of steps is visible: no set grows after as many steps as the definition takes.
+/// The visible libraries of the units of a list are closed, and they are within all closed sets. A library that a unit sees after
+/// any number of steps is visible: no set grows after as many steps as the definition takes.
 pub fn laws_of_visibility()
     ensures closed { (units : List ScopeUnit) → AreClosed units (sees units) }
     ensures least { (units : List ScopeUnit) (sets : Sets) → AreClosed units sets →
@@ -100,9 +100,9 @@ pub fn laws_of_visibility()
         IsTrue (seen_after units steps user name) → IsTrue (sees units user name) }
 {}
 
-/// The way back from a token to the nearest that ends it: some token on it passes a test exactly where one before passes
-/// and none ends the way from there on; so a place is in a name list exactly where a `use` or a `context` is before it
-/// with no `;` between. And a clause begins where it says.
+/// A token on the way back from an index passes a test exactly if some token before the index passes, and no token from there up
+/// to the index ends the way back. For example, an index is in the list of a `use` exactly if a `use` is before it with no `;`
+/// between. `clause_start` gives the token that begins the clause of an index.
 pub fn laws_of_references()
     ensures back { (test ends : Role → Bool) (roles : List Role) (at : ℕ) → at ≤ length roles →
         IsTrue (list_any test (back_to ends roles at)) ↔ IsBackAt test ends roles at }
