@@ -8,7 +8,7 @@ use crate::class::{is_blank, is_line_end, is_number_byte, is_word_byte};
 use crate::stops::stop_from;
 use base::TEXT_LIMIT;
 
-/// The end of the bytes of a word, where `stops` tells of 64 bytes from `base` on which are of none.
+/// The end of the bytes of a word. `stops` marks bytes that aren't of a word among the 64 from `base` on.
 #[inline(always)]
 pub fn word_end_by(text: &[u8], from: usize, base: usize, stops: u64) -> usize
     requires within { from ≤ length text.now }
@@ -23,7 +23,7 @@ pub fn word_end_by(text: &[u8], from: usize, base: usize, stops: u64) -> usize
     }
 }
 
-/// The end of a gap of blanks, where `stops` tells of 64 bytes from `base` on which are none.
+/// The end of a gap of blanks. `stops` marks bytes that aren't blank among the 64 from `base` on.
 #[inline(always)]
 pub fn gap_end_by(text: &[u8], from: usize, base: usize, stops: u64) -> usize
     requires within { from ≤ length text.now }

@@ -118,7 +118,7 @@ fn apostrophe_at(text: &[u8], last: Option<Token>, at: usize) -> Found
     }
 }
 
-/// At a byte over 127: the delimiter of byte order at the start of the text, or a byte that is no part of VHDL.
+/// At a byte over 127: the byte order mark at the start of the text, or a token of kind `High`.
 fn high_at(text: &[u8], at: usize) -> Found
     requires high { 128 ≤ slice_index text.now at }
     requires within { at < length text.now }

@@ -127,7 +127,7 @@ static ROLES: [Role; 115] = [
     Role::Other,
 ];
 
-/// The roles of delimiters, by their byte below 64; any other has none.
+/// The roles of delimiters, by their byte. Bytes of 64 and above have the role `Other`.
 static DELIMITERS: [Role; 64] = [
     Role::Other,
     Role::Other,

@@ -16,9 +16,9 @@ use base::{Items, LexFault, NoMemory, OrMemory, Role, RoleList, Span, TEXT_LIMIT
 use std::alloc::Global;
 use std::mem::replace;
 
-/// The tokens and the line comments of a text of at most 4,194,304 bytes, or its lexical fault, in time in proportion to its
-/// length (IEEE Std 1076-2008, clause 15). They are made in the memory of tokens that aren't used any more, where that has
-/// room; and in the same pass the roles of the tokens, in order: one byte a token, for all who read the file.
+/// The tokens and the line comments of a text of at most 4,194,304 bytes, or its lexical fault (IEEE Std 1076-2008, clause 15).
+/// The time is in proportion to the text's length. The tokens reuse the memory of `used` where that has room. The same pass
+/// puts the roles of the tokens into `roles`, in order: one byte for each token.
 pub fn scan_with_roles(
     alloc: Global,
     text: &[u8],
@@ -99,7 +99,7 @@ fn cut_on(
     Ok(at)
 }
 
-/// No tokens, which take no memory: others are made in what some that aren't used any more leave.
+/// No tokens, which take no memory. Later tokens may reuse the memory of earlier ones.
 pub fn no_tokens(alloc: Global) -> Tokens {
     Tokens {
         list: Items::new(alloc),
@@ -107,7 +107,7 @@ pub fn no_tokens(alloc: Global) -> Tokens {
     }
 }
 
-/// What tokens that aren't used any more leave.
+/// Empty lists in the memory of used tokens.
 fn room_of(used: Tokens) -> (Vec<Token>, Vec<Span>)
     ensures tokens { result.0.items ≡ [] }
     ensures comments { result.1.items ≡ [] }
@@ -143,8 +143,7 @@ fn cut_tokens(
     })
 }
 
-/// The cut of a text with the roles of its tokens, which take the offset of those that were there, in
-/// their memory where that has room.
+/// The cut of a text with the roles of its tokens. The roles replace the earlier ones, and reuse their memory where that has room.
 fn cut_with_roles(
     alloc: Global,
     text: &[u8],

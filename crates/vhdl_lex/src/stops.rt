@@ -54,7 +54,7 @@ fn gap_mask(text: &[u8], base: usize) -> u64
     is_other.to_bitmask()
 }
 
-/// The bytes from `base` on that aren't of a word, or none of them where fewer than 64 are left.
+/// A bit for each byte that isn't of a word among the 64 from `base` on, or 0 if fewer than 64 bytes are left.
 #[inline(never)]
 pub fn word_stops(text: &[u8], base: usize) -> u64
     requires { base ≤ length text.now }
@@ -67,7 +67,7 @@ pub fn word_stops(text: &[u8], base: usize) -> u64
     }
 }
 
-/// The bytes from `base` on that are no blanks, or none of them where fewer than 64 are left.
+/// A bit for each byte that isn't blank among the 64 from `base` on, or 0 if fewer than 64 bytes are left.
 #[inline(always)]
 pub fn gap_stops(text: &[u8], base: usize) -> u64
     requires { base ≤ length text.now }
