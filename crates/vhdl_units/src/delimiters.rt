@@ -1,4 +1,4 @@
-//! For each subprogram's word of a file the next `is` or `;` of its own depth of parentheses.
+//! For each `function` or `procedure` of a file, the next `is` or `;` of its own depth of parentheses.
 
 ghost use Rattle.std.specs.Prelude.{◌≡◌, ◌≤◌, ◌+◌, IfOk, count_by, length};
 ghost use Rattle.vhdl_spec.specs.Units.{is_opening};
@@ -65,8 +65,8 @@ fn has_subprogram(roles: &[Role]) -> bool
     found
 }
 
-/// By token the next `is` or `;` of a subprogram's word, or the number of tokens where there is none; other tokens have
-/// any number. The time is in proportion to the number of tokens, however deep the parentheses go.
+/// For each `function` or `procedure`, the next `is` or `;` of its own depth of parentheses, or the number of tokens if neither
+/// follows. Other tokens may have any number. The time is in proportion to the number of tokens, however deep the parentheses go.
 pub fn delimiters_of(alloc: Global, roles: &[Role]) -> Result<Vec<u32>, NoMemory>
     requires { length roles.now ≤ TEXT_LIMIT }
     ensures { IfOk result (λ delimiters. AreDelimiters roles.now 0 delimiters.items) }

@@ -21,8 +21,8 @@ pub struct Next {
     pub lead: usize,
 }
 
-/// The design units of a text of at most 4,194,304 bytes by its tokens and their roles, or the first fault of the unit grammar, in
-/// time in proportion to the number of tokens (IEEE Std 1076-2008, clause 13.1).
+/// The design units of a text of at most 4,194,304 bytes, or the first fault of the unit grammar (IEEE Std 1076-2008, clause
+/// 13.1). `tokens` and `roles` are the text's tokens and their roles. The time is in proportion to the number of tokens.
 pub fn outline(
     alloc: Global,
     text: &[u8],

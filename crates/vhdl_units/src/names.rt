@@ -17,7 +17,7 @@ pub fn order_of_names<'a>(one: &'a [u8], other: &'a [u8]) -> Ordering
     Ord::cmp(&one, &other)
 }
 
-/// The name of an owner, which is empty where there is no owner.
+/// The name of an owner, which is empty without an owner.
 pub fn owner_name<'a>(owner: &'a MaybeText) -> &'a [u8]
     ensures { result.now ≡ owner_name owner.entry.now }
 {

@@ -16,7 +16,7 @@ use std::alloc::Global;
 pub enum Standing {
     Item(usize),
     Plain(UnitKind, usize),
-    /// A unit with so many names before the last of its owner.
+    /// A unit with an owner: its kind, the number of names before the last of the owner's names, and its last token.
     Owned(UnitKind, usize, usize),
     NoUnit,
     Unended,

@@ -37,7 +37,7 @@ pub fn token_at(_text: &[u8], tokens: &[Token], at: usize) -> Token
     tokens[at]
 }
 
-/// The name that one token is, in the memory of a text that isn't used any more, where that has room.
+/// The name that one token is. It reuses the memory of `used` where that has room.
 pub fn name_of_token(text: &[u8], token: Token, used: Text) -> Result<Text, NoMemory>
     requires { LiesIn text.now token }
     ensures { IfOk result (λ name. name ≡ token_name text.now token) }
@@ -68,7 +68,7 @@ fn is_lowered(bytes: &[u8], name: &[u8]) -> bool
     true
 }
 
-/// Whether the bytes are these as they are.
+/// Whether the bytes equal the name. Upper and lower case differ.
 fn is_same(bytes: &[u8], name: &[u8]) -> bool
     ensures { IsTrue result ↔ (bytes.now ≡ name.now) }
 {
