@@ -12,7 +12,7 @@ use std::alloc::Global;
 /// The name of the case of a bench that calls none.
 static ALL: [u8; 3] = *b"all";
 
-/// What is left of a string after one of its bytes: two quotes are one.
+/// The rest of a string after one of its bytes. Two quotes in a row stand for one.
 fn after_byte(byte: u8, bytes: &[u8]) -> &[u8]
     ensures rest { unquoted (byte ∷ bytes.now) ≡ byte ∷ unquoted result.now }
     ensures shorter { length result.now ≤ length bytes.now }

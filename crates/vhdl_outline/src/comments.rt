@@ -13,7 +13,7 @@ fn is_pad(byte: u8) -> bool
     byte == b' ' || byte == b'\t'
 }
 
-/// What is left after spaces and tabs.
+/// The bytes after leading spaces and tabs.
 fn after_pads(bytes: &[u8]) -> &[u8]
     ensures { result.now ≡ after_pads bytes.now }
 {
@@ -27,7 +27,7 @@ fn after_pads(bytes: &[u8]) -> &[u8]
     rest
 }
 
-/// What is left after a word and the spaces and tabs that follow it, where bytes begin with it.
+/// The bytes after a leading word and the spaces and tabs that follow it, or `None` if the bytes don't begin with the word.
 fn after_word<'a>(word: &[u8], bytes: &'a [u8]) -> Option<&'a [u8]>
     ensures { MatchOption result
         ((test : List ℕ → Bool) → has_word_first word.now test bytes.now ≡ false)

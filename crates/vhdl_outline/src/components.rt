@@ -47,7 +47,7 @@ fn pass_many(roles: &[Role], from: usize, end: usize) -> usize
     at
 }
 
-/// The first token from one up to another that is `component`, or the other where there is none.
+/// The first `component` among the tokens `from .. end`, or `end` if no token is a `component`.
 fn next_component(roles: &[Role], from: usize, end: usize) -> usize
     requires ordered { from ≤ end }
     requires within { end ≤ length roles.now }

@@ -172,8 +172,9 @@ fn push_library_names(
     Ok(())
 }
 
-/// The names of the library clauses of the unit of a number in a scan, in order (IEEE Std 1076-2008, clause 13.2): those
-/// of its context part, and of a context declaration those inside it too. `roles` are those of the scan's tokens.
+/// The names of the library clauses of a unit of a scan, in order (IEEE Std 1076-2008, clause 13.2). `unit` is the unit's number.
+/// The clauses are the ones before its keyword, and for a context declaration also the ones inside it. `roles` are the roles of
+/// the scan's tokens.
 pub fn library_names(
     alloc: Global,
     text: &[u8],

@@ -46,7 +46,7 @@ fn pass_many(roles: &[Role], from: usize, end: usize) -> usize
     at
 }
 
-/// The first token from one up to another that a dot follows, or the other where there is none.
+/// The first of the tokens `from .. end` that a dot follows, or `end` if a dot follows no such token.
 pub fn next_dotted(roles: &[Role], from: usize, end: usize) -> usize
     requires ordered { from ≤ end }
     requires within { end ≤ length roles.now }

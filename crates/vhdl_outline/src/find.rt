@@ -37,9 +37,9 @@ fn push_structural(
     Ok(())
 }
 
-/// The references of the unit of a number in a scan, in time in proportion to the number of its tokens (IEEE Std
-/// 1076-2008, clauses 3.3, 3.4, 4.8 and 13): first the structural one, and then those by name, in order. `roles` are
-/// those of the scan's tokens, made once for a file.
+/// The references of a unit of a scan: first the structural one, and then the references by name, in order (IEEE Std 1076-2008,
+/// clauses 3.3, 3.4, 4.8 and 13). `unit` is the unit's number. The time is in proportion to the number of the unit's tokens.
+/// `roles` are the roles of the scan's tokens, made once for a file.
 pub fn find_refs(
     alloc: Global,
     text: &[u8],

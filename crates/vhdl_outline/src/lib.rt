@@ -1,7 +1,7 @@
 //! The references of design units to names in libraries, and the names of their library clauses.
-//! What the tokens of a file say of tests: which of its entities are benches, which cases its architectures call, and
-//! whether it asks for one simulation.
-//! The outlines of files: what is kept of a file's tokens once it has been scanned.
+//! The testbench facts of a file: which of its entities are benches, which cases its architectures call, and whether it asks
+//! for one simulation.
+//! The outlines of files: the parts of a file's tokens that stay in memory after its scan.
 #![tactic(auto)]
 
 mod calls;

@@ -1,4 +1,4 @@
-//! What is kept of scanned files: their design units, what each of these names and mentions, and what it says of tests.
+//! Outlines of scanned files: design units with their library names and unresolved references, and testbench facts.
 
 ghost use Rattle.std.specs.Prelude.{◌≡◌, ◌<◌, ◌≤◌, [], IfOk, Some, length, map, slice_get};
 ghost use Rattle.std.specs.List.{All};
@@ -12,13 +12,13 @@ use crate::{FileFacts, UnresolvedRefs, library_names, testbench_facts, unresolve
 use base::{Items, NoMemory, RoleList, Scan, TEXT_LIMIT, TextList, Tokens, UnitList};
 use std::alloc::Global;
 
-/// What a design unit names: the libraries of its library clauses (IEEE Std 1076-2008, clause 13.2).
+/// The names in a design unit's library clauses (IEEE Std 1076-2008, clause 13.2).
 #[derive(Drop)]
 pub struct UnitScope {
     pub names: TextList,
 }
 
-/// The design units of a file, what each names and mentions, and what it says of tests.
+/// The design units of a file, the library names and unresolved references of each unit, and the testbench facts of the file.
 #[derive(Drop)]
 pub struct FileOutline {
     pub units: UnitList,
@@ -33,8 +33,8 @@ pub struct Outlines {
     pub files: Items<FileOutline>,
 }
 
-/// How many units files have, or a number above all that memory holds: how much room is made for them. Nothing that is said
-/// of them rests on it.
+/// The number of units of files, or `usize::MAX` if the number is larger. It only decides how much room is made for units: no
+/// contract depends on it.
 pub fn room_for_units(files: &Items<FileOutline>) -> usize {
     let mut count: usize = 0;
     for file in 0..files.len() {
@@ -43,7 +43,7 @@ pub fn room_for_units(files: &Items<FileOutline>) -> usize {
     count
 }
 
-/// What each unit of a scan mentions, in order.
+/// The unresolved references of each unit of a scan, in order.
 fn unresolved_of_units(
     alloc: Global,
     text: &[u8],
@@ -64,7 +64,7 @@ fn unresolved_of_units(
     Ok(Items::from_vec(all))
 }
 
-/// What the unit of a number in a scan names.
+/// The library names of the unit of a number in a scan.
 fn scope_at(
     alloc: Global,
     text: &[u8],
@@ -84,7 +84,7 @@ fn scope_at(
     })
 }
 
-/// What each unit of a scan names, in order.
+/// The library names of each unit of a scan, in order.
 fn scopes_of_units(
     alloc: Global,
     text: &[u8],

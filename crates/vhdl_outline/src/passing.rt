@@ -69,7 +69,7 @@ fn pass_many(roles: &[Role], from: usize, end: usize) -> usize
     at
 }
 
-/// The first token from one up to another at which a case may be called, or the other where there is none.
+/// The first of the tokens `from .. end` at which a case may be called, or `end` if a case may be called at none.
 pub fn next_call(roles: &[Role], from: usize, end: usize) -> usize
     requires ordered { from ≤ end }
     requires within { end ≤ length roles.now }

@@ -12,7 +12,7 @@ use base::{MaybeText, NoMemory, Ref, Role, Text, Token, Tokens, UnitKind};
 use std::alloc::Global;
 use vhdl_units::name_of_token;
 
-/// A reference to nothing, which takes no memory: others are made in what one that isn't used any more leaves.
+/// An empty reference, which takes no memory. It serves as the first `used` of the functions that reuse a reference's memory.
 pub fn no_ref(alloc: Global) -> Ref {
     Ref {
         library: Text::new(alloc),
@@ -23,7 +23,7 @@ pub fn no_ref(alloc: Global) -> Ref {
     }
 }
 
-/// What a text that isn't used any more leaves.
+/// The used text, whose memory is reused, or an empty text.
 fn room_of(alloc: Global, used: MaybeText) -> Text {
     match used {
         MaybeText::Nothing => Text::new(alloc),
@@ -50,7 +50,7 @@ fn architecture_in(
     }
 }
 
-/// The reference whose names are tokens of a text, in the memory of one that isn't used any more, where that has room.
+/// The reference whose names are tokens of a text. It reuses the memory of `used` where that has room.
 pub fn ref_in(alloc: Global, text: &[u8], named: &NamedRef, used: Ref) -> Result<Ref, NoMemory>
     requires { NamedLiesIn text.now named.now }
     ensures { IfOk result (λ found. found ≡ named_ref text.now named.now) }

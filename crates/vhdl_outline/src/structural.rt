@@ -69,7 +69,7 @@ fn configured_architecture(
     }
 }
 
-/// The name of an owner, and no letters where there is none.
+/// The name of an owner, which is empty without an owner.
 fn owner_name<'a>(owner: &'a MaybeText) -> &'a [u8]
     ensures { result.now ≡ owner_name owner.entry.now }
 {
@@ -79,7 +79,7 @@ fn owner_name<'a>(owner: &'a MaybeText) -> &'a [u8]
     }
 }
 
-/// A text of some bytes, in the memory of one that isn't used any more, where that has room.
+/// A text of some bytes. It reuses the memory of `used` where that has room.
 fn text_in(bytes: &[u8], used: Text) -> Result<Text, NoMemory>
     ensures { IfOk result (λ text. text ≡ bytes.now) }
 {
@@ -130,9 +130,9 @@ pub fn configured_by(
     }
 }
 
-/// The reference that a unit has by its structure, in the memory of one that isn't used any more, and whether it has one
-/// (IEEE Std 1076-2008, clauses 3.3, 3.4 and 4.8): an architecture and a configuration refer to their entity, a package body
-/// to its package. Where it has none, the reference says nothing.
+/// Whether a unit has a structural reference, and that reference (IEEE Std 1076-2008, clauses 3.3, 3.4 and 4.8). An architecture
+/// and a configuration refer to their entity, a package body refers to its package. For other units the reference has no
+/// meaning. It reuses the memory of `used`.
 pub fn structural_ref(
     alloc: Global,
     unit: &Unit,

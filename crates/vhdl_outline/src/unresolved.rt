@@ -1,5 +1,5 @@
-//! What a design unit mentions: what is asked of its tokens once all units of a project are known, kept as copies of the
-//! tokens that are names, so that the others needn't be kept.
+//! The unresolved references of a design unit, which are looked up once all units of a project are known. They are copies of the
+//! tokens that are names, so that the other tokens needn't be kept.
 
 ghost use Rattle.std.specs.Prelude.{◌≡◌, ◌+◌, ◌<◌, ◌≤◌, IfOk, Some, length, map, slice_get};
 ghost use Rattle.std.specs.List.{All};
@@ -41,8 +41,12 @@ pub struct NamedRef {
     pub at: u32,
 }
 
-/// What a design unit mentions: context declarations, the architecture that it configures, what it refers to by name, the
-/// libraries that it uses whole, and the names of the components that it declares or instantiates by that word.
+/// The unresolved references of a design unit:
+/// - `contexts`: the context declarations that it refers to.
+/// - `configured`: the name of the architecture that it configures.
+/// - `refs`: its references by name.
+/// - `whole`: the libraries that it uses whole, as in `use L.all`.
+/// - `components`: the names of the components that it declares, or instantiates with the word `component`.
 #[derive(Drop)]
 pub struct UnresolvedRefs {
     pub contexts: Items<NamedRef>,
@@ -231,7 +235,8 @@ fn components_of(
     tokens_at(alloc, text, tokens, indices.as_slice())
 }
 
-/// What the unit of a number in a scan mentions. `roles` are those of the scan's tokens. What is in `room` is lost.
+/// The unresolved references of the unit of a number in a scan. `roles` are the roles of the scan's tokens. The content of `room`
+/// is lost.
 pub fn unresolved_refs(
     alloc: Global,
     text: &[u8],
