@@ -35,7 +35,7 @@ pub fn find(groups: &Groups, group: &Group) -> Option<usize>
     groups.number(group)
 }
 
-/// Gives a group a number, where it has none, and says which it has.
+/// The number of a group. A group without a number gets one.
 fn add(groups: &mut Groups, group: Group) -> Result<usize, NoMemory>
     ensures number { IfOk result (λ number. (number ≡ group_number groups.new group)
         × (number < length groups.new)) }
@@ -126,7 +126,8 @@ fn add_kept(
     add_architecture(alloc, groups, library, unit)
 }
 
-/// Gives the groups that a unit is in numbers, where they have none.
+/// The numbers of the groups that a unit is in. A group without a number gets one. Unless `keeps` is set, the unit's group of
+/// architectures is left out.
 fn add_own(
     alloc: Global,
     keeps: bool,
@@ -149,8 +150,8 @@ fn add_own(
     })
 }
 
-/// Gives the groups of the units of one file numbers, where they have none, and lists those of each unit. Those of
-/// architectures are left out where they aren't kept.
+/// Adds the numbers of each unit's groups to `owned`, for the units of one file. A group without a number gets one. Unless
+/// `keeps` is set, groups of architectures are left out.
 pub fn add_groups(
     alloc: Global,
     keeps: bool,

@@ -22,8 +22,7 @@ use base::{Items, MaybeText, NoMemory, Project, Text, TextList, Unit, UnitKind};
 use std::alloc::Global;
 use vhdl_outline::{FileOutline, NamedRef};
 
-/// Adds the link for what a unit wants of primary units of a name. What is wanted is made in the memory of what isn't
-/// wanted any more, and comes back.
+/// Adds the link for what a unit wants of primary units of a name. The want reuses the memory of an earlier one, and is returned.
 fn add_primary_link(
     alloc: Global,
     names: &Names,
@@ -252,7 +251,7 @@ fn add_context_links(
     Ok(want)
 }
 
-/// Adds the links of a unit that mentions these context declarations; a configuration configures this architecture.
+/// Adds the links of a unit that refers to these context declarations. A configuration configures this architecture.
 fn add_unit_links(
     alloc: Global,
     names: &Names,
@@ -345,7 +344,7 @@ fn add_links(
     Ok(want)
 }
 
-/// The links of all units, which are so many, to groups.
+/// The links of all units to groups. The row index of a group is `row_indices` plus its number.
 pub fn links_of_units(
     alloc: Global,
     names: &Names,

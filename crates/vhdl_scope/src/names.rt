@@ -120,7 +120,7 @@ pub fn find(names: &Names, name: &[u8]) -> Option<usize>
     }
 }
 
-/// Gives a name a number, where it has none.
+/// Numbers a name, unless it has a number.
 fn add(alloc: Global, names: &mut Names, name: &[u8]) -> Result<(), NoMemory>
     ensures { OnOk result (HasAll (name.now ∷ []) (keys_of names.old) (keys_of names.new)) }
 {
@@ -133,7 +133,7 @@ fn add(alloc: Global, names: &mut Names, name: &[u8]) -> Result<(), NoMemory>
     }
 }
 
-/// Gives names numbers, where they have none.
+/// Numbers each name that has no number yet.
 fn add_all(alloc: Global, names: &mut Names, more: &[Text]) -> Result<(), NoMemory>
     ensures { OnOk result (HasAll more.now (keys_of names.old) (keys_of names.new)) }
 {
@@ -143,7 +143,7 @@ fn add_all(alloc: Global, names: &mut Names, more: &[Text]) -> Result<(), NoMemo
     Ok(())
 }
 
-/// Gives the names of the library clauses of units numbers, where they have none.
+/// Numbers each name of the library clauses of units that has no number yet.
 fn add_units(alloc: Global, names: &mut Names, units: &[UnitScope]) -> Result<(), NoMemory>
     ensures { OnOk result (HasAll (flat_map (λ unit. unit.names) units.now)
         (keys_of names.old) (keys_of names.new)) }

@@ -1,4 +1,4 @@
-//! An order of indices in which an index mostly comes after those that it takes from.
+//! An order of indices in which an index mostly comes after the indices that it takes from.
 
 ghost use Rattle.std.specs.Prelude.{◌≡◌, ◌<◌, IfOk, OnOk, length};
 ghost use Rattle.std.specs.List.{All};
@@ -33,7 +33,7 @@ fn enter(steps: &mut Vec<Step>, flags: &mut [bool], at: usize) -> Result<(), NoM
     Ok(())
 }
 
-/// Follows the next link of an index; where there is none, the walk leaves the index.
+/// Follows the next link of an index. After the last link, the walk leaves the index.
 fn walk_on(
     links: &[LinkList],
     steps: &mut Vec<Step>,
@@ -89,8 +89,8 @@ fn walk_out(
     Ok(())
 }
 
-/// Row indices, in the order in which a walk along links from all indices leaves them. The walk goes to each index once, so a
-/// index comes after those that it takes from, but for the links that close a ring.
+/// Row indices, in the order in which a walk along links from all indices leaves them. The walk goes to each index once. So an
+/// index comes after the indices that it takes from, except for links that close a ring.
 pub fn order_of(alloc: Global, links: &[LinkList]) -> Result<Vec<usize>, NoMemory>
     requires below { AreBelow (length links.now) links.now }
     ensures { IfOk result (λ order. All (λ at. at < length links.now) order.items) }

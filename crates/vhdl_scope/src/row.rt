@@ -1,4 +1,4 @@
-//! Rows: the set of numbers of one index, as it is kept, and as it is worked on.
+//! Rows: the set of numbers of one index, in the form that is stored and in the forms that are changed.
 
 ghost use Rattle.std.specs.Prelude.{◌≡◌, ℕ, ◌/◌, ◌<◌, ◌≤◌, ◌||◌, ◌∷◌, ◌++◌, [], true, false, bit_or, drop, length, nat_eq, IfOk, OnOk, IsTrue, replicate};
 ghost use Rattle.std.specs.Int.{bit_at};
@@ -11,7 +11,7 @@ use std::alloc::Global;
 use std::marker::Model;
 use std::mem::swap;
 
-/// Words of a row that are all the same, from where the run before ends up to an index.
+/// A run of equal words of a row, from the end of the run before up to the index `end`.
 #[derive(Clone, Copy)]
 pub struct Run {
     pub end: usize,
@@ -25,7 +25,7 @@ pub enum Runs {
     Many(Vec<Run>),
 }
 
-/// A set of numbers, as it is kept: so many words. Contracts see them.
+/// A set of numbers in the form that is stored: `words` words, as runs. Contracts see the words.
 #[derive(Drop)]
 pub struct Row {
     words: usize,
@@ -92,7 +92,7 @@ fn has_bit(word: u64, bit: usize) -> bool
     (word >> bit) & 1 == 1
 }
 
-/// Whether a row of so many words has a number.
+/// Whether a row of `words` words has a number.
 fn has_in(words: usize, runs: &[Run], number: usize) -> bool
     ensures { result ≡ row_has (row_words words runs.now) number }
 {
@@ -121,7 +121,7 @@ fn are_same(runs: &[Run], other: &[Run]) -> bool
     true
 }
 
-/// Adds words that are all the same, up to an index, after a run that goes on where its words are the same too.
+/// Adds equal words, up to an index, after the run `last`. If its words are the same, that run is extended.
 fn push_after(runs: &mut Vec<Run>, last: Run, end: usize, word: u64) -> Result<(), NoMemory>
     ensures { OnOk result ((start : ℕ) (words : ℕ → ℕ) →
         AreRunsTo start words (runs.old.items ++ last ∷ []) → start < end →
@@ -137,7 +137,7 @@ fn push_after(runs: &mut Vec<Run>, last: Run, end: usize, word: u64) -> Result<(
     Ok(())
 }
 
-/// Adds words that are all the same, up to an index.
+/// Adds equal words, up to an index.
 fn push_run(runs: &mut Vec<Run>, end: usize, word: u64) -> Result<(), NoMemory>
     ensures { OnOk result ((start : ℕ) (words : ℕ → ℕ) → AreRunsTo start words runs.old.items →
         start < end → ((at : ℕ) → start ≤ at → at < end → words at ≡ word) →
@@ -216,7 +216,7 @@ fn with_bits(word: u64, other: u64) -> u64
     word | other
 }
 
-/// Puts the bits of two rows of so many words into a third one, and says whether these are more than those of the first.
+/// Puts the bits of two rows of `words` words into a third one, and says whether the third has more bits than the first.
 fn merge(
     words: usize,
     first: &[Run],
@@ -269,7 +269,7 @@ fn is_over(runs: &[Run], others: &[Run]) -> bool
     has_all(runs[0], others[0])
 }
 
-/// Puts the numbers of a row into another one of so many words, and says whether that has grown. What is in `spare` is lost.
+/// Adds the numbers of `other` to `runs`, both of `words` words, and says whether `runs` has grown. The content of `spare` is lost.
 fn join_all(
     words: usize,
     runs: &mut Vec<Run>,
@@ -380,7 +380,7 @@ fn put_runs(words: &mut [u64], runs: &[Run])
 }
 
 impl Room {
-    /// No number, with room for those below 64 times so many words.
+    /// An empty set, with room for the numbers below 64 times `words`.
     pub fn new(alloc: Global, words: usize) -> Result<Room, NoMemory>
         ensures { IfOk result (λ room. room ≡ replicate words 0) }
     {
@@ -399,7 +399,7 @@ impl Room {
         set_bit(self.words.as_mut_slice(), number);
     }
 
-    /// Puts the numbers of a row in the place of those that are there.
+    /// Replaces the numbers with the numbers of a row.
     pub fn load(&mut self, row: &Row)
         requires { length row.now ≡ length self.old }
         ensures { self.new ≡ row.now }
@@ -420,7 +420,7 @@ impl Room {
 }
 
 impl Draft {
-    /// No number, with room for those below 64 times so many words.
+    /// An empty set, for the numbers below 64 times `words`.
     pub fn new(alloc: Global, words: usize) -> Draft
         ensures { result ≡ replicate words 0 }
     {
@@ -462,7 +462,7 @@ impl Draft {
         )
     }
 
-    /// Puts the numbers of a row in the place of those that are there.
+    /// Replaces the numbers with the numbers of a row.
     pub fn load(&mut self, row: &Row) -> Result<(), NoMemory>
         requires { length row.now ≡ length self.old }
         ensures len { length self.new ≡ length self.old }

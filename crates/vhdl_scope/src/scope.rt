@@ -12,8 +12,7 @@ use base::{Items, NoMemory, Project, Unit, UnitKind};
 use std::alloc::Global;
 use vhdl_outline::{FileOutline, room_for_units};
 
-/// For each file of a project the number of its first unit; and the groups of units, with the numbers of those that each
-/// unit is in.
+/// For each file of a project the number of its first unit; the groups of units; and for each unit the numbers of its groups.
 #[derive(Drop)]
 pub struct Scopes {
     pub starts: Vec<usize>,

@@ -273,9 +273,10 @@ fn settle_all(
     )
 }
 
-/// Grows the sets of all indices until each takes all that its links hand on: they are then the least that hold the given
-/// ones and take it. Two sweeps, in an order in which an index comes after those that it takes from, settle rings and
-/// what has none; a sweep back and the list of work settle the rest. Sweeps pass over an index whose row has all there is.
+/// Grows the sets of all indices until each takes all that its links hand on. The result is the least such sets that hold the
+/// given ones. Two sweeps run in an order in which an index mostly comes after the indices that it takes from. A third sweep finds
+/// whether a set still grows; if so, a sweep back and the list of work settle the rest. The first three sweeps pass over an index
+/// whose row has all numbers of all rows.
 pub fn spread(
     alloc: Global,
     links: &[LinkList],

@@ -104,7 +104,7 @@ pub fn no_want(alloc: Global) -> Want {
     }
 }
 
-/// The empty text, in the memory of one that isn't used any more.
+/// The empty text, in the memory of `used`.
 fn clear_text(used: Text) -> Text
     ensures { result ≡ [] }
 {
@@ -113,7 +113,7 @@ fn clear_text(used: Text) -> Text
     Text::from_vec(bytes)
 }
 
-/// A copy of a text, in the memory of one that isn't used any more, where that has room.
+/// A copy of a text. It reuses the memory of `used` where that has room.
 fn copy_in(text: &Text, used: Text) -> Result<Text, NoMemory>
     ensures { IfOk result (λ copy. copy ≡ text.now) }
 {
@@ -123,7 +123,7 @@ fn copy_in(text: &Text, used: Text) -> Result<Text, NoMemory>
     Ok(Text::from_vec(bytes))
 }
 
-/// What a unit of a library wants of primary units of a name, in the memory of what isn't wanted any more.
+/// What a unit of a library wants of primary units of a name. It reuses the memory of `used`.
 pub fn primary_want(library: &Text, name: &Text, used: Want) -> Result<Want, NoMemory>
     ensures { IfOk result (λ want. want ≡ primary_want library.now name.now) }
 {
@@ -147,8 +147,7 @@ pub fn primary_want(library: &Text, name: &Text, used: Want) -> Result<Want, NoM
     })
 }
 
-/// What a configuration of an entity of a library wants: the architectures of a name, in the memory of what isn't wanted any
-/// more.
+/// What a configuration of an entity of a library wants: the architectures of a name. It reuses the memory of `used`.
 pub fn architecture_want(
     library: &Text,
     entity: &Text,
@@ -178,7 +177,7 @@ pub fn architecture_want(
     })
 }
 
-/// What a reference wants of context declarations, in the memory of what isn't wanted any more.
+/// What a reference wants of context declarations. It reuses the memory of `used`.
 pub fn context_want(
     library: &Text,
     text: &[u8],

@@ -9,7 +9,7 @@ use crate::links::{Link, LinkList};
 use base::{Items, NoMemory};
 use std::alloc::Global;
 
-/// Puts an index on the list of work, where it isn't there.
+/// Puts an index on the list of work, unless it is on the list.
 pub fn list_one(work: &mut Vec<usize>, flags: &mut [bool], at: usize) -> Result<(), NoMemory>
     requires within { at < length flags.old }
     requires work { IsWork work.old.items flags.old }
@@ -22,7 +22,7 @@ pub fn list_one(work: &mut Vec<usize>, flags: &mut [bool], at: usize) -> Result<
     Ok(())
 }
 
-/// Puts indices on the list of work, where they aren't there.
+/// Puts each of some indices on the list of work, unless it is on the list.
 pub fn list_all(
     work: &mut Vec<usize>,
     flags: &mut [bool],
