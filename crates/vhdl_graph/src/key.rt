@@ -29,9 +29,10 @@ pub struct Head {
     entity: usize,
 }
 
-/// What names a design unit of a project (IEEE Std 1076-2008, clause 13.1): a primary unit of any kind by its library and
-/// name, an architecture by its entity too, and the body of a package by the name of the package. The three names stand one
-/// after another in one buffer, so that a key takes one allocation. Contracts see the names.
+/// The key of a design unit of a project (IEEE Std 1076-2008, clause 13.1). A primary unit of any kind has its library
+/// and its name as key. An architecture also has the name of its entity. The body of a package has the name of the
+/// package. The three names stand one after another in one buffer, so that a key takes one allocation. Contracts see
+/// the names.
 #[derive(Drop)]
 pub struct DesignUnitKey {
     head: Head,
@@ -74,7 +75,7 @@ impl Hash for DesignUnitKey {
     }
 }
 
-/// What comes after so many bytes.
+/// The bytes after the first `count` bytes.
 #[tactic(auto, using(crate::proofs::JoinedLemmas::rest_is))]
 fn after(bytes: &[u8], count: usize) -> &[u8]
     requires { count ≤ length bytes.now }
@@ -224,7 +225,7 @@ pub fn fill(alloc: Global, text: &mut Text, bytes: &[u8]) -> Result<(), NoMemory
     Ok(())
 }
 
-/// A name, in the memory of one that isn't used any more.
+/// A key with these names, in the memory of the key `used`.
 fn reuse_key(
     used: DesignUnitKey,
     primary: bool,
@@ -255,7 +256,7 @@ fn reuse_key(
     Ok(DesignUnitKey { head, letters })
 }
 
-/// Puts a name in the place of another, in its memory.
+/// Replaces a key by a key with these names, in the same memory.
 fn put_key(
     alloc: Global,
     key: &mut DesignUnitKey,

@@ -1,4 +1,4 @@
-//! Which files of a project depend on which, and what is wrong with the names of its design units.
+//! The dependencies between the files of a project, and the faults in the names of its design units.
 #![tactic(auto)]
 
 mod check;

@@ -1,4 +1,4 @@
-//! The libraries of a project: those that have files, and those that stand outside of it.
+//! The libraries of a project: the libraries that have files, and the external ones.
 
 ghost use Rattle.std.specs.Prelude.{◌≡◌, ℕ, List, ◌||◌, IfOk, OnOk};
 ghost use Rattle.std.specs.List.{list_any};
@@ -19,14 +19,16 @@ static IEEE: [u8; 4] = *b"ieee";
 
 static VUNIT: [u8; 9] = *b"vunit_lib";
 
-/// The libraries that have files in a project, and those that it or this program says are outside.
+/// The libraries of a project. `own` has the libraries that have files in it. `external` has the libraries that the
+/// project lists as external, and `std`, `ieee` and `vunit_lib`.
 #[derive(Drop)]
 pub struct Libraries {
     pub own: Names,
     pub external: Names,
 }
 
-/// So many names are compared one after the other in less time than the bytes of one take to be hashed.
+/// A list of at most this many names is searched name by name, which takes less time than hashing the bytes of one
+/// name.
 const FEW: usize = 8;
 
 /// Whether a name is among few names.
@@ -51,7 +53,7 @@ pub fn has_name(names: &Names, name: &[u8]) -> bool
     names.contains(name)
 }
 
-/// Adds a name, where it isn't there.
+/// Adds a name, unless it is already in the set.
 fn add_name(alloc: Global, names: &mut Names, name: &[u8]) -> Result<(), NoMemory>
     ensures { OnOk result ((other : List ℕ) →
         knows names.new other ≡ (knows names.old other || bytes_eq other name.now)) }
@@ -108,7 +110,7 @@ pub fn libraries_of(alloc: Global, project: &Project) -> Result<Libraries, NoMem
     })
 }
 
-/// Whether a library isn't looked into.
+/// Whether a library is outside of the project: it has no files in it, and it is external.
 pub fn is_external(libraries: &Libraries, library: &Text) -> bool
     ensures { result ≡ stands_outside libraries.now library.now }
 {

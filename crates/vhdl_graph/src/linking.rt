@@ -70,10 +70,12 @@ fn link_files(
     Ok(Linked { edges, warnings })
 }
 
-/// Which files of a project depend on which, strictly rising and none on itself, and the uses of whole libraries that
-/// give no dependency, in project order; or the first thing that is wrong with the names of its units: two of one name,
-/// looked for over all files first, and then a unit or an architecture that is missing. There is one text and one outline
-/// for each file, in order; `sets` has the libraries that each unit sees.
+/// The dependencies of each file of a project: strictly rising positions, without its own. Also the warnings, in
+/// project order: uses of whole libraries that give no dependency.
+///
+/// If the names of units have a fault, `link` returns the first one. Duplicate units are looked for first, over
+/// all files, and then missing units and architectures. There is one text and one outline for each file, in order.
+/// `sets` has the libraries that each unit sees.
 pub fn link(
     alloc: Global,
     project: &Project,

@@ -8,7 +8,7 @@ use base::{FILE_LIMIT, NoMemory, Pair, Project};
 use base_collections::PositionSet;
 use std::alloc::Global;
 
-/// Rows of so many files, of which none depends on another.
+/// An empty row for each of `files` files.
 fn no_rows(alloc: Global, files: usize) -> Result<Vec<PositionSet>, NoMemory>
     ensures each { IfOk result (λ rows. length rows.items ≡ files) }
     ensures none { IfOk result (λ rows. (user at : ℕ) → is_in_row rows.items user at ≡ false) }
@@ -34,7 +34,7 @@ fn add_pair(rows: &mut Vec<PositionSet>, pair: &Pair)
     }
 }
 
-/// Of each file of a project the files that it says the file depends on.
+/// For each file of a project, the files on which the project lists a dependency of it.
 pub fn rows_of_pairs(alloc: Global, project: &Project) -> Result<Vec<PositionSet>, NoMemory>
     ensures each { IfOk result (λ rows. length rows.items ≡ length project.now.files) }
     ensures rows { IfOk result (λ rows. (user at : ℕ) → user < length project.now.files →

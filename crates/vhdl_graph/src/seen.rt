@@ -33,7 +33,7 @@ use vhdl_units::{name_of_token, token_has_name};
 
 static WORK: [u8; 4] = *b"work";
 
-/// What is known of a project's names: its units, its libraries, and which of these each unit sees.
+/// The tables of a project's names: its units, its libraries, and the libraries that each unit sees.
 #[derive(Drop)]
 pub struct Tables<'a> {
     pub index: Index,

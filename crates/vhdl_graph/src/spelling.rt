@@ -1,4 +1,4 @@
-//! A design unit as it is named where there are two of it.
+//! How the fault of a duplicate unit spells the name of the unit.
 
 ghost use Rattle.std.specs.Prelude.{◌≡◌, ◌++◌, IfOk, OnOk};
 ghost use Rattle.vhdl_spec.specs.References.{owner_name};
