@@ -1,4 +1,4 @@
-//! Patterns taken apart for many names: names that are asked for as they are, and the others.
+//! Patterns prepared for matching many names: plain names, which are compared byte by byte, and the other patterns.
 
 ghost use Rattle.std.specs.Prelude.{◌≡◌, ℕ, List, ◌<◌, ◌||◌, ◌∷◌, [], IfOk, IfSome, OnOk, IsTrue, length, map};
 ghost use Rattle.std.specs.Str.{bytes_eq};
@@ -11,8 +11,9 @@ use base::NoMemory;
 use indexmap::IndexSet;
 use std::alloc::Global;
 
-/// What patterns choose: all names, where one of them is a `*` alone; the names that are asked for byte by byte, none of
-/// which has more bytes than `longest`; and what the patterns of these numbers match.
+/// What patterns choose. `all` says that some pattern is a `*` alone, which matches every name. `plain` has the names
+/// of the patterns that match one name only; none of them has more than `longest` bytes. `others` has the numbers of
+/// the other patterns.
 #[derive(Drop)]
 pub struct Choice {
     pub all: bool,
@@ -55,7 +56,7 @@ fn plain_name(alloc: Global, pattern: &Pattern) -> Result<Option<Vec<u8>>, NoMem
     Ok(Some(name))
 }
 
-/// Adds a name that is asked for as it is.
+/// Adds a plain name, unless it is already in the set.
 fn add_name(names: &mut IndexSet<Vec<u8>>, name: Vec<u8>) -> Result<(), NoMemory>
     ensures { OnOk result ((other : List ℕ) →
         is_asked_for names.new other
@@ -103,7 +104,7 @@ fn longest(names: &IndexSet<Vec<u8>>) -> usize
     most
 }
 
-/// What patterns choose, but for the most bytes of a name that is asked for as it is.
+/// What patterns choose, with 0 in place of the length of the longest plain name.
 fn unbounded_choice(alloc: Global, patterns: &PatternList) -> Result<Choice, NoMemory>
     ensures { IfOk result (λ choice. Chooses patterns.now patterns.now choice) }
 {
@@ -152,7 +153,7 @@ fn some_matches(patterns: &PatternList, numbers: &[usize], name: &[u8]) -> bool
     false
 }
 
-/// Whether a name is asked for as it is. Of one that is longer than all such names no byte is looked at.
+/// Whether a name is a plain name. The bytes of a name that is longer than all plain names aren't looked at.
 fn is_asked_for(choice: &Choice, name: &[u8]) -> bool
     requires { IsBounded choice.now }
     ensures { result ≡ is_asked_for choice.now.plain name.now }
@@ -163,7 +164,7 @@ fn is_asked_for(choice: &Choice, name: &[u8]) -> bool
     choice.plain.contains(name)
 }
 
-/// Whether a name is chosen: by what it is, or by one of the other patterns.
+/// Whether a name is chosen: all names are, or it is a plain name, or one of the other patterns matches it.
 pub fn is_chosen(patterns: &PatternList, choice: &Choice, name: &[u8]) -> bool
     requires numbers { AreNumbersOf patterns.now choice.now.others.items }
     requires bounded { IsBounded choice.now }

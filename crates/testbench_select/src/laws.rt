@@ -6,7 +6,8 @@ ghost use Rattle.base_outcomes.specs.declared.bench.Bench.{Bench};
 ghost use Rattle.testbench_select.specs.declared.pattern.PatternPart.{PatternPart};
 ghost use Rattle.testbench_select.specs.Selection.{bench_names, is_selected, selection};
 
-/// The full names of what is selected are those that some pattern matches, in the order of benches and cases.
+/// The full names of the selected cases are the full names that some pattern matches, in the order of benches and
+/// cases.
 pub fn laws_of_selections()
     ensures { (patterns : List (List PatternPart)) (benches : List Bench) →
         flat_map bench_names (selection patterns benches)

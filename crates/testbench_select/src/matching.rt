@@ -107,7 +107,7 @@ fn after_any<'a>(others: &'a [PatternPart], name: &'a [u8]) -> Option<(&'a [Patt
     }
 }
 
-/// Whether pattern parts, of which the first one stands for any bytes, match all of a name.
+/// Whether pattern parts match the whole of a name. The first one stands for any bytes.
 fn matches_any(pattern_parts: &[PatternPart], name: &[u8]) -> bool
     requires { BeginsAnyBytes pattern_parts.now }
     ensures { IsTrue result ↔ Matches pattern_parts.now name.now }

@@ -12,8 +12,8 @@ pub struct ByteRange {
     pub last: u8,
 }
 
-/// What a part of a name has to be: any bytes, any one byte, a byte in one of the ranges or, where `negated`, in none of
-/// them, or this byte.
+/// A part of a pattern. It matches any bytes, any one byte, one byte of a set, or one given byte. The set has the bytes
+/// in the ranges or, if `negated`, all other bytes.
 #[derive(Drop)]
 pub enum PatternPart {
     AnyBytes,

@@ -165,8 +165,14 @@ fn pattern_part_at(alloc: Global, bytes: &[u8], at: usize, end: usize) -> Result
     })
 }
 
-/// The pattern that bytes mean: `*` stands for any bytes, `?` for one byte, `[..]` for one byte of a set or, with a `!`
-/// first, for one that isn't in it, and any other byte for itself. The time is in proportion to the bytes.
+/// The pattern that bytes mean:
+///
+/// - `*` stands for any bytes.
+/// - `?` stands for one byte.
+/// - `[..]` stands for one byte of a set or, with a `!` first, for one byte outside of the set.
+/// - Any other byte stands for itself.
+///
+/// The time is in proportion to the bytes.
 pub fn read_pattern(alloc: Global, bytes: &[u8]) -> Result<Pattern, NoMemory>
     ensures { IfOk result (λ pattern. pattern ≡ pattern_parts_of bytes.now) }
 {

@@ -127,10 +127,12 @@ fn push_bench(
     Ok(())
 }
 
-/// The cases whose full name some pattern matches, in order, and the benches that have one left. Names that are asked
-/// for as they are, and a `*` alone, take one look at each case, however many there are, and none at the bytes of a full
-/// name that is longer than all of them; each other pattern takes the time of `matches` at each case. What the full names
-/// of a bench begin with is made once, so time and memory are in proportion to the names of benches and of cases.
+/// The cases whose full name some pattern matches, in order, and the benches that have at least one such case.
+///
+/// All plain names and a `*` alone together take one look-up for each case. The bytes of a full name that is longer
+/// than all plain names aren't looked at. Each other pattern takes the time of `matches` for each case. The start that
+/// the full names of a bench share is made once, so the full names take time and memory in proportion to the names of
+/// benches and cases.
 pub fn select(alloc: Global, tests: &Tests, patterns: &PatternList) -> Result<Tests, NoMemory>
     ensures { IfOk result (λ selected. selected ≡ selection patterns.now tests.now) }
 {
