@@ -1,11 +1,11 @@
-//! What became of test cases.
+//! The verdicts on test cases, and the ends of runs.
 
 use base::{Items, Text, TextList};
 
 /// The most bytes of a run's output that are shown.
 pub const SHOWN_LIMIT: usize = 4_096;
 
-/// What became of a test case.
+/// The verdict on a test case.
 #[derive(Clone, Copy, Debug, PartialEq, Eq)]
 pub enum Verdict {
     Passed,
@@ -17,8 +17,8 @@ pub enum Verdict {
 /// The verdicts of cases, in their order.
 pub type VerdictList = Items<Verdict>;
 
-/// What became of a run: the full names of its cases, a verdict for each, and the first 4,096 bytes of what its child
-/// printed; nothing where it was never started.
+/// The end of a run: the full names of its cases, a verdict for each, and the first 4,096 bytes that its child printed.
+/// The output of a run that was never started is empty.
 #[derive(Drop)]
 pub struct RunEnd {
     pub names: TextList,
@@ -29,7 +29,7 @@ pub struct RunEnd {
 /// The ends of runs, in the order of the runs.
 pub type RunList = Items<RunEnd>;
 
-/// What became of all runs, in their order.
+/// The ends of all runs, in their order.
 #[derive(Drop)]
 pub struct TestEnd {
     pub runs: RunList,

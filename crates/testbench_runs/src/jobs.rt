@@ -1,11 +1,11 @@
-//! What a simulator is asked.
+//! The job that a simulator is given.
 
 use base::{Built, Text, TextList};
 
-/// What a simulator is asked: a bench with its architecture, the names of the cases that it runs, the configuration that
-/// it hands to the bench, the path that the results go to, and all files of the project as they were built, in compile
-/// order. Each text has fewer than 2^32 bytes, and there are fewer than 2^32 cases: none of a bench that names none
-/// itself.
+/// The job that a simulator is given: a bench with its architecture, and the names of the cases to run. With them come
+/// the configuration for the bench, the path for the results, and all built files of the project in compile order. A
+/// bench that names no case itself has an empty list of cases. Each text has fewer than 2^32 bytes, and there are fewer
+/// than 2^32 cases.
 #[derive(Drop)]
 pub struct BenchJob {
     pub library: Text,

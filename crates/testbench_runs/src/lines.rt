@@ -12,7 +12,7 @@ fn line_end(text: &[u8]) -> Option<usize>
     text.iter().position(|byte| *byte == b'\n')
 }
 
-/// The bytes without the carriage return at their end, where there is one.
+/// The bytes without the carriage return at their end, if they end with one.
 fn without_return(line: &[u8]) -> &[u8]
     ensures { result.now ≡ strip_carriage_return line.now }
 {
@@ -23,7 +23,7 @@ fn without_return(line: &[u8]) -> &[u8]
     }
 }
 
-/// The first line, and what comes after its line feed; nothing where it has none.
+/// The first line, and the bytes after its line feed; `None` if there is no line feed.
 pub fn next_line(text: &[u8]) -> (&[u8], Option<&[u8]>)
     ensures lines { result_lines text.now ≡ result.0.now ∷ lines_of_rest result.1 }
     ensures less { IfSome result.1 (λ rest. length rest.now < length text.now) }

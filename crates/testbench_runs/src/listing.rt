@@ -100,8 +100,11 @@ fn push_runs(
     Ok(())
 }
 
-/// The runs of benches, in the order in which they are started: of a bench that names no case itself one without cases,
-/// of one whose cases run in one simulation one with all of them, and of any other one for each case.
+/// The runs of benches, in the order in which they are started:
+///
+/// - A bench that names no case itself has one run without cases.
+/// - A bench whose cases run in one simulation has one run with all of them.
+/// - Any other bench has one run for each case.
 pub fn list_runs(alloc: Global, project: &Project, tests: &Tests) -> Result<TestRunList, NoMemory>
     ensures { IfOk result (λ runs. runs ≡ test_runs project.now.files tests.now) }
 {

@@ -9,8 +9,8 @@ use std::alloc::Global;
 use std::collections::BTreeSet;
 use std::marker::Model;
 
-/// A set of names that are borrowed, by a tree of their bytes. Contracts see a list of them, in an order that is no
-/// promise: they ask what it has.
+/// A set of borrowed names, as a tree of their bytes. Contracts see a list of the names, in an order that isn't
+/// specified. They only state which names the list has.
 #[derive(Drop)]
 pub struct Names<'a> {
     set: BTreeSet<&'a [u8]>,

@@ -2,14 +2,15 @@
 
 use base::{Items, Text, TextList};
 
-/// A run of tests: the cases of a bench that one child of the simulator runs. `library`, `bench` and `architecture` have
-/// at most 4,194,304 bytes each, and so have the names of the cases together, of which there are at most 65,536.
+/// A run of tests: the cases of a bench that one child of the simulator runs. `library`, `bench` and `architecture`
+/// have at most 4,194,304 bytes each. There are at most 65,536 cases, whose names have at most 4,194,304 bytes
+/// together.
 #[derive(Drop)]
 pub struct TestRun {
     pub library: Text,
     pub bench: Text,
     pub architecture: Text,
-    /// The names of the cases, as they are in the bench; none where `whole` is true.
+    /// The names of the cases without the names of library and bench; empty if `whole` is true.
     pub cases: TextList,
     /// Whether the bench names no case itself; the run then is of the one case `all`.
     pub whole: bool,

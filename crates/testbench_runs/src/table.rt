@@ -111,8 +111,8 @@ fn verdicts_of_nothing(
 }
 
 /// The verdicts of the cases of a run, in their order, by the code with which its child ended and the results that it
-/// left, if any; of a bench that names no case itself (`whole`) the one verdict of all of it. Names of cases are bytes:
-/// where two are the same, so are their verdicts. Time and memory are as those of looking up each case and each line of
+/// left, if any. A bench that names no case itself (`whole`) has one verdict. Names of cases are compared as bytes, and
+/// cases with the same name have the same verdict. Time and memory are those of looking up each case and each line of
 /// the results in a tree of the cases.
 pub fn verdicts(
     alloc: Global,
