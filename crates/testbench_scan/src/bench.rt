@@ -1,4 +1,4 @@
-//! The bench of an entity, or what is wrong with its architectures.
+//! The bench of an entity, or the fault in its architectures.
 
 ghost use Rattle.std.specs.Prelude.{◌≡◌, List, IfOk};
 ghost use Rattle.base_outcomes.specs.declared.bench.TestFault.TheVariants.{NoArchitecture, TwoArchitectures};

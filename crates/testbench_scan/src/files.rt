@@ -1,4 +1,4 @@
-//! The files of a project with what is known of each, and their design units by number.
+//! The files of a project with their texts and outlines, and their design units by number.
 
 ghost use Rattle.std.specs.Prelude.{◌≡◌, List};
 ghost use Rattle.base.specs.declared.design.Scan.{Scan};

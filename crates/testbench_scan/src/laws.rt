@@ -6,8 +6,8 @@ ghost use Rattle.base_outcomes.specs.declared.bench.Bench.{Bench};
 ghost use Rattle.testbench_select.specs.Selection.{bench_names};
 ghost use Rattle.testbench_scan.specs.Benches.{IsBenchOfOne, ScannedFiles, tests_of};
 
-/// Where there is no fault, each bench is that of an entity with one architecture, and has the cases of that
-/// architecture or, where it calls none, the one case `all`; and no two cases have one full name.
+/// Without a fault, each bench is that of an entity with exactly one architecture. It has the cases that this
+/// architecture calls or, if it calls none, the one case `all`. No two cases have the same full name.
 pub fn laws_of_benches()
     ensures made { (sources : ScannedFiles) (tests : List Bench) (bench : Bench) →
         tests_of sources ≡ Ok tests → Contains tests bench → IsBenchOfOne sources bench }

@@ -58,7 +58,8 @@ fn is_good_name(name: &[u8]) -> bool
     is_utf8(name) && !has_control(name)
 }
 
-/// Whether a case has no name, or one that is none after the name of its bench, which is good or bad.
+/// Whether a case has an empty name or a bad full name. `start_is_good` says whether the name of its bench alone is
+/// good.
 fn is_bad_case(start_is_good: bool, bench: &Bench, test_case: &TestCase) -> bool
     requires { start_is_good ≡ is_good_name (bench_name bench.now.library bench.now.name) }
     ensures { result ≡ is_bad_case bench.now test_case.now }

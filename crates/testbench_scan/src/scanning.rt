@@ -80,11 +80,12 @@ fn tests_of(alloc: Global, files: Files) -> Result<Tests, OrMemory<TestFault>>
     benches_of(alloc, files, &index, entities.as_slice())
 }
 
-/// The test benches of a project in project and unit order, each with its cases in order (as VUnit documents them: an
-/// entity with the generic `runner_cfg` and one architecture, and a case for each call `run("name")`); or the first
-/// fault: for each bench its architectures are looked at, then the names of its cases, and then whether a full name came
-/// before. There is one text and one outline for each file, in order. Time and memory are in proportion to the units and
-/// to the names of benches and cases.
+/// The test benches of a project in project and unit order, each with its cases in order, as VUnit documents them. A
+/// bench is an entity with the generic `runner_cfg` and one architecture. Each call `run("name")` is a case.
+///
+/// If there is a fault, `benches` returns the first one. For each bench, its architectures are checked first, then the
+/// names of its cases, and then whether a full name came before. There is one text and one outline for each file, in
+/// order. Time and memory are in proportion to the units and to the names of benches and cases.
 pub fn benches(
     alloc: Global,
     project: &Project,
