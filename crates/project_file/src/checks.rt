@@ -1,4 +1,4 @@
-//! What is wrong with a library whose files aren't kept.
+//! The faults of a library whose files aren't kept.
 
 ghost use Rattle.std.specs.Prelude.{◌≡◌, IfOk};
 ghost use Rattle.std.specs.List.{list_any};
@@ -41,7 +41,8 @@ fn all_match(alloc: Global, names: &[Text], patterns: &[Text]) -> Result<(), OrM
     Ok(())
 }
 
-/// What is wrong with the files of a library after more files than may be: they aren't made.
+/// The first fault in the table of a library, or `None`. The files of the libraries before it are already more than a
+/// project may have, so this library's files aren't made.
 #[tactic(auto, using(crate::proofs::LibrarySum::fault_ends))]
 pub fn check_library(
     alloc: Global,

@@ -176,14 +176,15 @@ fn add_files(
     Ok(())
 }
 
-/// Whether so many more files may be kept.
+/// Whether a project may have `count` files and `more` files together.
 fn has_room(count: usize, more: usize) -> bool
     ensures { result ≡ nat_le (count + more) FILE_LIMIT }
 {
     more <= FILE_LIMIT && count <= FILE_LIMIT - more
 }
 
-/// The files so far with those of a library at indices of names, or nothing where they are more than may be.
+/// The files so far, and then the files of a library at indices of names. `None` if a project may not have these
+/// together.
 fn add_few(
     alloc: Global,
     files: ProjectFileList,
@@ -204,7 +205,7 @@ fn add_few(
     Ok(Some(files))
 }
 
-/// The files so far with those of a library, or nothing where they are more than may be.
+/// The files so far, and then the files of a library. `None` if a project may not have these together.
 #[tactic(auto, unfolding(crate::specs::Toml::library_files))]
 fn add_library_files(
     alloc: Global,
@@ -238,7 +239,8 @@ fn add_library_files(
     Ok(kept)
 }
 
-/// The files so far with those of a library, or nothing where they are more than may be: of those only faults are looked for.
+/// The files so far, and then the files of a library. `None` if a project may not have these together; then only the
+/// faults of the library are looked for.
 fn add_or_check(
     alloc: Global,
     files: Option<ProjectFileList>,
@@ -286,7 +288,7 @@ fn add_table(
     Ok(kept)
 }
 
-/// The files of libraries, or nothing where they are more than may be; and the libraries.
+/// The files of libraries, or `None` if a project may not have these together; and the libraries.
 #[tactic(auto, using(crate::proofs::LibrarySum::table_more, crate::proofs::LibrarySum::table_fails, crate::proofs::LibrarySum::files_all))]
 pub fn files_of(
     alloc: Global,

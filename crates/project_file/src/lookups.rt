@@ -100,7 +100,7 @@ fn has_file(
     }
 }
 
-/// What is wrong with the name of a file.
+/// Checks that the project has a file of this name.
 #[tactic(auto, using(crate::proofs::FewFiles::index_there, crate::proofs::FewFiles::no_index_there))]
 fn check_index(
     alloc: Global,
@@ -121,7 +121,7 @@ fn check_index(
     Err(OrMemory::Fault(ProjectFault::UnknownDependency { name }))
 }
 
-/// What is wrong with a dependency.
+/// The first fault in the table of a dependency, if it has one: its two files must be files of the project.
 #[tactic(auto, using(crate::proofs::LibrarySum::fault_ends))]
 fn check_pair(
     alloc: Global,
@@ -142,7 +142,7 @@ fn check_pair(
     check_index(alloc, tables, libraries, paths, used)
 }
 
-/// What is wrong with the dependencies of a project whose files aren't kept.
+/// The first fault in the dependencies of a project whose files aren't kept, if there is one.
 pub fn check_pairs(
     alloc: Global,
     names: &[Text],

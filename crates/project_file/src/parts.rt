@@ -37,7 +37,7 @@ pub fn sides(bytes: &[u8], delimiter: u8) -> (&[u8], &[u8])
     }
 }
 
-/// The bytes without the carriage return at their end, where there is one.
+/// The bytes without the carriage return at their end, if they end with one.
 fn without_return(line: &[u8]) -> &[u8]
     ensures { result.now ≡ strip_carriage_return line.now }
 {
@@ -48,7 +48,7 @@ fn without_return(line: &[u8]) -> &[u8]
     }
 }
 
-/// The first line, and the bytes after it; `None` where there is no line.
+/// The first line, and the bytes after it; `None` if there are no bytes.
 pub fn next_line(bytes: &[u8]) -> Option<(&[u8], &[u8])>
     ensures lines { MatchOption result
         (lines bytes.now ≡ [])
@@ -61,7 +61,7 @@ pub fn next_line(bytes: &[u8]) -> Option<(&[u8], &[u8])>
     }
 }
 
-/// The last line, of bytes without a line feed; `None` where there is none.
+/// The last line: bytes without a line feed, and the empty rest after them; `None` if there are no bytes.
 fn last_line(bytes: &[u8]) -> Option<(&[u8], &[u8])>
     requires { slice_split (λ byte. byte == 10) bytes.now ≡ bytes.now ∷ [] }
     ensures lines { MatchOption result

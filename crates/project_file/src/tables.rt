@@ -57,7 +57,8 @@ fn linked_project(
     })
 }
 
-/// What is wrong with the dependencies of a table, where its libraries have more files than may be.
+/// The first fault in the dependencies of a table, if there is one. Its libraries have more files than a project may
+/// have.
 #[tactic(auto, using(crate::proofs::LibrarySum::fault_ends))]
 fn check_links(
     alloc: Global,
@@ -77,7 +78,8 @@ fn check_links(
     check_pairs(alloc, names, tables, libraries, pairs.as_slice())
 }
 
-/// The project of these files, where they were kept, or what is wrong with the dependencies of a table.
+/// The project of these files, or the first fault in the dependencies of a table. `None` if the files weren't kept and
+/// there is no fault.
 fn few_linked(
     alloc: Global,
     table: &Table,
@@ -202,8 +204,8 @@ fn bytes_project(
     }
 }
 
-/// The project that the bytes of a project file in TOML say, over the names of all files, or its first fault; `None` where
-/// there is no fault, and the project has more than 4,096 files. Of these no more than so many are ever made.
+/// The project that a project file in TOML describes, over the names of all files, or its first fault. `None` if there
+/// is no fault, but the project has more than 4,096 files. No more than 4,096 files are ever made.
 pub fn read_toml_project(
     alloc: Global,
     bytes: &[u8],

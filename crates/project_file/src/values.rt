@@ -106,7 +106,7 @@ pub fn texts_of(alloc: Global, form: Form, value: &Value) -> Result<Option<TextL
     }
 }
 
-/// The words, where they are at least so many and at most 32.
+/// The words, if they are at least `least` and at most 32.
 fn few(least: usize, words: TextList) -> Option<TextList>
     ensures { result ≡ few least words }
 {
@@ -117,7 +117,7 @@ fn few(least: usize, words: TextList) -> Option<TextList>
     None
 }
 
-/// The words that a value lists: so many at least, and 32 at most.
+/// The words that a value lists, if they are at least `least` and at most 32.
 pub fn words_of(alloc: Global, least: usize, value: &Value) -> Result<Option<TextList>, NoMemory>
     ensures { IfOk result (λ words. words ≡ words_of least (view value.now)) }
 {
@@ -130,7 +130,7 @@ pub fn words_of(alloc: Global, least: usize, value: &Value) -> Result<Option<Tex
 /// Tables in a TOML table.
 pub type Tables<'a> = Vec<&'a Table>;
 
-/// The tables that values are, or none where one value is no table.
+/// The values as tables; `None` if one of them isn't a table.
 #[tactic(auto, using(crate::proofs::ReadItems::reads_on, crate::proofs::ReadItems::reads_none, crate::proofs::ReadItems::reads_all))]
 fn tables_in(alloc: Global, values: &[Value]) -> Result<Option<Tables<'_>>, NoMemory>
     ensures { IfOk result (λ tables.

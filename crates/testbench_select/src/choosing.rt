@@ -12,7 +12,7 @@ use indexmap::IndexSet;
 use std::alloc::Global;
 
 /// What patterns choose. `all` says that some pattern is a `*` alone, which matches every name. `plain` has the names
-/// of the patterns that match one name only; none of them has more than `longest` bytes. `others` has the numbers of
+/// of the patterns that match one name only, and no such name has more than `longest` bytes. `others` has the numbers of
 /// the other patterns.
 #[derive(Drop)]
 pub struct Choice {
