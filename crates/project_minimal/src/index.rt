@@ -131,7 +131,7 @@ fn add_units(
     Ok(())
 }
 
-/// An index of no unit, with these suppliers of architectures, which are none.
+/// An index without units, with these suppliers of architectures, which must be empty.
 fn with_architectures(
     alloc: Global,
     room: usize,
@@ -149,7 +149,7 @@ fn with_architectures(
     })
 }
 
-/// An index of no unit, with tables for so many names.
+/// An index without units, with tables that have room for `room` names.
 fn no_index(alloc: Global, room: usize) -> Result<Index, NoMemory>
     ensures { IfOk result AreVoid }
 {

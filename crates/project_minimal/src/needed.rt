@@ -26,7 +26,7 @@ use std::alloc::Global;
 use vhdl_outline::Outlines;
 use vhdl_scope::VisibleLibraries;
 
-/// Takes a file, where it is one of so many.
+/// Takes a file, if it is one of `count` files.
 fn take_within(count: u32, file: u32, taken: &mut Taken) -> Result<(), NoMemory>
     requires few { count ≤ FILE_LIMIT }
     requires before { AreTaken count taken.old }
@@ -140,11 +140,16 @@ fn needed_by(
     Ok(set)
 }
 
-/// The files of a project that tests need: the least set that has the files of their entities, and of each of its files
-/// those that this one depends on itself, those of the architectures and bodies of its units, and those of the entities that
-/// its components may be bound to by default (IEEE Std 1076-2008, clause 7.3.3). `edges` says which files depend on which;
-/// without it the project is a listed one, where each depends on all earlier ones. There is one text for each file, the
-/// outlines are theirs, and `sets` has the libraries that their units see. Each file is looked at once.
+/// The files of a project that tests need. This is the least set that has the files of the tests' entities and, for
+/// each of its files:
+///
+/// - the files that it depends on directly;
+/// - the files of the architectures of its entities and of the bodies of its packages;
+/// - the files of the entities that its components may be bound to by default (IEEE Std 1076-2008, clause 7.3.3).
+///
+/// `edges` says which files depend on which. Without it the project is a listed one, where each file depends on all
+/// earlier ones. There is one text for each file, the outlines are theirs, and `sets` has the libraries that their
+/// units see. Each file is looked at once.
 pub fn minimal(
     alloc: Global,
     project: &Project,

@@ -1,4 +1,4 @@
-//! The files of a project with what is known of each.
+//! The files of a project, with the text and the outline of each.
 
 use base::{Items, Project, TextList};
 use vhdl_outline::FileOutline;

@@ -20,7 +20,7 @@ pub struct Suppliers {
     pub files: Vec<Positions>,
 }
 
-/// No file, with a table for so many names.
+/// No suppliers, with a table that has room for `count` names.
 pub fn no_suppliers(alloc: Global, count: usize) -> Result<Suppliers, NoMemory>
     ensures { IfOk result IsVoid }
 {
@@ -29,7 +29,7 @@ pub fn no_suppliers(alloc: Global, count: usize) -> Result<Suppliers, NoMemory>
     Ok(Suppliers { names, files })
 }
 
-/// The last of some files.
+/// Whether a file is the last one of some files.
 fn ends_with(files: &[u32], file: u32) -> bool
     ensures { result ≡ true → has_file files.now file ≡ true }
 {
@@ -39,7 +39,7 @@ fn ends_with(files: &[u32], file: u32) -> bool
     }
 }
 
-/// Adds a file, where it isn't the last one.
+/// Adds a file, unless it is the last one already.
 fn push_file(files: &mut Positions, file: u32) -> Result<(), NoMemory>
     ensures has { OnOk result ((at : ℕ) →
         has_file files.new at ≡ (has_file files.old at || file == at)) }
@@ -53,7 +53,7 @@ fn push_file(files: &mut Positions, file: u32) -> Result<(), NoMemory>
     Ok(())
 }
 
-/// Makes a list of files for a number, where that is the next one.
+/// Adds an empty list of files for a number, if the number is the next one.
 fn make_room(alloc: Global, files: &mut Vec<Positions>, number: usize) -> Result<(), NoMemory>
     ensures { OnOk result (files.new.items ≡ (if number == length files.old.items
         then files.old.items ++ [] ∷ [] else files.old.items)) }
@@ -64,7 +64,7 @@ fn make_room(alloc: Global, files: &mut Vec<Positions>, number: usize) -> Result
     Ok(())
 }
 
-/// Adds a file to the list of a number, where it isn't the last one there.
+/// Adds a file to the list of a number, unless it is the last one of the list already.
 fn put_file(
     alloc: Global,
     files: &mut Vec<Positions>,

@@ -38,7 +38,7 @@ pub fn is_in(set: &PositionSet, at: u32) -> bool
     }
 }
 
-/// Takes one of so many files.
+/// Takes one of `count` files, unless it is taken already.
 pub fn take(count: u32, file: u32, taken: &mut Taken) -> Result<(), NoMemory>
     requires few { count ≤ FILE_LIMIT }
     requires within { file < count }
