@@ -13,20 +13,19 @@ ghost use Rattle.project_reading.specs.declared.linking.ReadProject.{ReadProject
 
 /// What holds of the benches of a project that was read.
 pub fn laws_of_bench_sizes()
-    // Each has the sizes of a bench: the names of its cases together are no longer than the text that calls them.
+    // Each bench is within its limits: the names of its cases together have at most as many bytes as a text may have.
     ensures read { (query : Wanted) (read : ReadProject) → IsReadProject query read →
         All (FitsBench read.project.files) read.tests }
-    // So have those of which patterns select cases.
+    // Benches with the cases that patterns select are within these limits too.
     ensures selected { (files : List ProjectFile) (patterns : List (List PatternPart))
         (benches : List Bench) → All (FitsBench files) benches →
         All (FitsBench files) (selection patterns benches) }
-    // All of a project together have no more cases than there may be, and those of which patterns select cases no more
-    // than all.
+    // The benches of a project together have at most 65,536 cases. Patterns never select more cases than there are.
     ensures few { (query : Wanted) (read : ReadProject) → IsReadProject query read →
         count_of_tests read.tests ≤ CASE_LIMIT }
     ensures fewer { (patterns : List (List PatternPart)) (benches : List Bench) →
         count_of_tests (selection patterns benches) ≤ count_of_tests benches }
-    // Each of these has a case.
+    // Each selected bench has a case.
     ensures some { (patterns : List (List PatternPart)) (benches : List Bench) →
         All (λ bench. has_cases bench ≡ true) (selection patterns benches) }
 {}

@@ -97,7 +97,7 @@ fn link_stop(fault: LinkFault) -> ReadStop
     }
 }
 
-/// What depends on what in a project, or what is wrong with the names of its units.
+/// The dependencies between the files of a project, or the fault in the names of its units.
 fn links_of(
     alloc: Global,
     project: &Project,
@@ -122,7 +122,7 @@ fn links_of(
     }
 }
 
-/// Adds the name of the file at a position, where there is one.
+/// Adds the name of the file at a position, if there is such a file.
 #[tactic(auto, unfolding(crate::specs::Reading::names_at))]
 fn add_name(
     alloc: Global,
@@ -192,7 +192,7 @@ fn few_tests(tests: Tests) -> Result<Tests, ReadStop>
     Ok(tests)
 }
 
-/// The tests of a project, or what is wrong with them.
+/// The tests of a project, or why the reading stops: they have a fault, or more cases than the limit.
 fn found_tests(
     alloc: Global,
     project: &Project,
@@ -213,7 +213,7 @@ fn found_tests(
     }
 }
 
-/// The tests of a project where they are wanted, or what is wrong with them; else none.
+/// The tests of a project if they are wanted, and else no tests; or why the reading stops.
 #[tactic(auto, unfolding(crate::specs::Reading::wanted_tests))]
 fn wanted_tests(
     alloc: Global,

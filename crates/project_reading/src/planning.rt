@@ -10,8 +10,8 @@ use base::{CASE_LIMIT, NoMemory};
 use std::alloc::Global;
 use testbench_runs::{TestRunList, laws_of_runs, list_runs};
 
-/// The runs of those tests of a project that patterns select, in the order in which they are started. There are at most
-/// 65,536, and what is asked for each fits a request.
+/// The runs of the tests of a project that patterns select, in the order in which they are started. There are at most
+/// 65,536, and each is within the limits of a run.
 pub fn planned_runs(
     alloc: Global,
     query: &Query,

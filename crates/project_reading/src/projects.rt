@@ -122,7 +122,7 @@ fn read_csv<T: Tree>(alloc: Global, tree: &mut T) -> Result<Project, ReadStop>
     }
 }
 
-/// The project in a tree, or what is wrong with its project file.
+/// The project in a tree, or why the reading stops.
 #[tactic(auto, unfolding(crate::specs::Reading::project_in))]
 pub(crate) fn find_project<T: Tree>(alloc: Global, tree: &mut T) -> Result<Project, ReadStop>
     ensures project { T.tells →

@@ -1,6 +1,6 @@
-//! What is read of a tree: the project in it, with its graph; or why nothing is compiled.
+//! Reads the project in a tree, with its graph; or says why nothing is compiled.
 //!
-//! Each step calls the next with what it has read, and the first that fails answers for all:
+//! Each step reads its part and calls the next step. The first step that fails gives the answer:
 //!
 //! 1. `read_project` finds the project file.
 //! 2. `read_sources` counts the files.
@@ -95,9 +95,10 @@ fn read_sources<T: Tree>(
     read_files(alloc, tree, query, project)
 }
 
-/// What is wanted of the project in a tree: its graph, or the graph of the files that the tests need that one of the patterns
-/// matches, and its tests; or what is wrong with its sources. Each file is read once, and no call changes what the tree holds
-/// and lists.
+/// Reads what a query wants of the project in a tree: its graph and, unless the query is for the graph alone, its
+/// tests. A query for what tests need gives the part of the graph that the tests need which one of its patterns
+/// matches. The answer to sources with a fault, or over a limit, is why the reading stops. Each file is read at most
+/// once, and no call changes what the tree holds and lists.
 pub fn read_project<T: Tree>(
     alloc: Global,
     tree: &mut T,

@@ -20,7 +20,7 @@ const MOST_TEXT: u64 = TEXT_LIMIT as u64;
 /// The most bytes of all files of a project together.
 const MOST_TOTAL: u64 = GRAPH_TEXT_LIMIT as u64;
 
-/// A text after texts of so many bytes, where they have no more together than they may.
+/// A text after texts of `before` bytes, if together they are within the limit on the text of a project.
 fn text_after(before: u64, text: Text) -> Result<Text, ReadStop>
     requires before { before ≤ GRAPH_TEXT_LIMIT }
     requires short { length text ≤ TEXT_LIMIT }
@@ -35,7 +35,7 @@ fn text_after(before: u64, text: Text) -> Result<Text, ReadStop>
     Ok(text)
 }
 
-/// That a file isn't there.
+/// The refusal for a file that doesn't exist.
 fn absent_file(alloc: Global, name: &FileName) -> Result<Refusal, NoMemory>
     ensures { IfOk result (λ reason. reason ≡ Refusal.AbsentFile name.now) }
 {
@@ -44,7 +44,7 @@ fn absent_file(alloc: Global, name: &FileName) -> Result<Refusal, NoMemory>
     })
 }
 
-/// The text of a file, after texts of so many bytes, or why there is none.
+/// The text of a file after texts of `before` bytes, or why the reading stops.
 fn text_of<T: Tree>(
     alloc: Global,
     tree: &mut T,
@@ -70,7 +70,8 @@ fn text_of<T: Tree>(
     }
 }
 
-/// The texts of the files, or what the first file says that gives none. Each is asked for once, in order.
+/// The texts of the files, or why the reading stops at the first file that gives no text. The files are asked for in
+/// order, each once.
 pub(crate) fn texts_of<T: Tree>(
     alloc: Global,
     tree: &mut T,
