@@ -35,7 +35,7 @@ fn fitting_name(alloc: Global, reader: &mut ByteReader<'_>) -> Result<Option<Fil
     Ok(Some(name))
 }
 
-/// A text of at most so many bytes. Only such a text is copied.
+/// A text of at most `limit` bytes. A longer text isn't copied, and gives `None`.
 fn short_text(
     alloc: Global,
     limit: usize,
@@ -88,8 +88,8 @@ fn built_files(
     Ok(Some(files))
 }
 
-/// The files that were built, after their number: at most 4,096, each with a name of the sizes of one and an artefact of at
-/// most 262,144 bytes; `None` where the bytes that remain begin with no such files.
+/// The files that were built, after their number, which is at most 4,096. Each file has a library of 1 to 64 bytes, a
+/// path of 1 to 1,024 and an artefact of at most 262,144. `None` if the remaining bytes don't begin with such files.
 #[tactic(auto, unfolding(crate::specs::Reading::all_built_at))]
 pub fn all_built(alloc: Global, reader: &mut ByteReader<'_>) -> Result<Option<Built>, NoMemory>
     ensures { IfOk result
