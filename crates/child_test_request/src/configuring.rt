@@ -111,9 +111,13 @@ fn put_next_pair(out: &mut Vec<u8>, key: &[u8], value: &[u8]) -> Result<(), NoMe
     put_pair(out, key, value)
 }
 
-/// The configuration text that the bench of a run is handed: five pairs of a key and a value. It has at most four bytes
-/// for each byte of the names of the cases and two for each case, three for each byte of the run's name and two for
-/// each of the path, and some hundred more.
+/// The configuration text that the bench of a run is handed: five pairs of a key and a value. Its length is at most the
+/// sum of:
+///
+/// - four bytes for each byte of the names of the cases, and two for each case;
+/// - three bytes for each byte of the run's name;
+/// - two bytes for each byte of the path;
+/// - a little over a hundred bytes for the rest.
 #[tactic(auto, unfolding(testbench_runs::specs::Configuration::configuration, testbench_runs::specs::Configuration::pairs_of))]
 pub fn runner_cfg(alloc: Global, run: &TestRun) -> Result<Text, NoMemory>
     ensures { IfOk result (λ text. text ≡ configuration run.now) }

@@ -21,7 +21,7 @@ pub fn laws_of_bench_jobs()
     ensures same { (job other : BenchJob) → IsBenchJob job → IsBenchJob other →
         bench_input job ≡ bench_input other →
         job ≡ other }
-    // What is asked for a run is a job.
+    // The job for a run within its limits is within the limits of a job.
     ensures runs { (run : TestRun) (built : List BuiltFile) → FitsRun run → IsBuilt built →
         IsBenchJob (bench_job run built) }
 {}

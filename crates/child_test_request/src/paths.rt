@@ -33,7 +33,7 @@ fn case_name(alloc: Global, run: &TestRun, case: &[u8]) -> Result<Vec<u8>, NoMem
     Ok(name)
 }
 
-/// The first of some cases; nothing where there is none.
+/// The name of the first case; empty if there are no cases.
 fn first_case(cases: &[Text]) -> &[u8]
     ensures { result.now ≡ slice_index_or cases.now 0 [] }
 {
