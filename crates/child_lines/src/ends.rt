@@ -25,7 +25,7 @@ pub fn ends_with(code: u32, output: Text) -> Exit
     }
 }
 
-/// The answer to an input that is no request: code 2, and a line that says so.
+/// The answer to an input that isn't a request: code 2, and the line `bad request`.
 #[tactic(auto, unfolding(crate::specs::Ends::bad_request))]
 pub fn bad_request(alloc: Global) -> Result<Exit, NoMemory>
     ensures { IfOk result (λ exit. exit ≡ bad_request) }

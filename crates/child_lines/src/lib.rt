@@ -1,5 +1,5 @@
-//! What the children that are part of the program share: the lines of artefacts, and the answer to an input that is no
-//! request.
+//! What the children that are part of the program share: the lines of artefacts, and the answer to an input that isn't
+//! a request.
 #![tactic(auto)]
 
 mod ends;

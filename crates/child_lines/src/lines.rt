@@ -11,7 +11,7 @@ fn line_feed(bytes: &[u8]) -> Option<usize>
     bytes.iter().position(|byte| *byte == b'\n')
 }
 
-/// The line before the first line feed, and the bytes after it; `None` where there is no line feed.
+/// The line before the first line feed, and the bytes after it; `None` if there is no line feed.
 pub fn next_line(bytes: &[u8]) -> Option<(&[u8], &[u8])>
     ensures parts { MatchOption result
         (lines bytes.now ≡ bytes.now ∷ [])
