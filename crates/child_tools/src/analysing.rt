@@ -137,10 +137,16 @@ fn job_of(alloc: Global, input: &[u8]) -> Result<Option<CompileJob>, NoMemory>
     Ok(job)
 }
 
-/// What a compiler child that is part of the program answers to its input, whatever its bytes: an exit code, an output and
-/// no results. A request is answered by the first of these: with 1 and a line where its file isn't VHDL, where a comment of it
-/// begins with `-- child: refuse `, where a strict reference names a unit that isn't there, and where its artefact would have
-/// more than 262,144 bytes; else with 0 and the artefact. Another input is answered with 2 and `bad request`.
+/// What a compiler child that is part of the program answers to its input, whatever its bytes: an exit code, an output
+/// and no results. A request has the first of these answers that applies:
+///
+/// - 1 and a line, if its file isn't VHDL;
+/// - 1 and a line, if a comment of the file begins with `-- child: refuse `;
+/// - 1 and a line, if a strict reference names a unit that no artefact exports, its own included;
+/// - 1 and a line, if its artefact would have more than 262,144 bytes;
+/// - 0 and the artefact.
+///
+/// The answer to any other input is 2 and `bad request`.
 #[tactic(auto, unfolding(crate::specs::Answers::analysis))]
 pub fn analyse(alloc: Global, input: &[u8]) -> Result<Exit, NoMemory>
     // `scan` gives each text what is found in it: its tokens and units, or its fault.

@@ -127,11 +127,16 @@ pub fn bench_job(alloc: Global, input: &[u8]) -> Result<Option<BenchJob>, NoMemo
     Ok(job)
 }
 
-/// What a simulator child that is part of the program answers to its input, whatever its bytes: an exit code, an output, and
-/// the text that goes to the results path of the request, which another input than a request doesn't have. A bench that no
-/// file of its library has is answered with 1 and `no bench`. Else its cases are started in order; the first that some artefact
-/// says fails is the last, with 1 and `failed NAME`; and where none does, all are done, with 0. Another input is answered with
-/// 2 and `bad request`. Each text of a request is copied once; time goes by n log n of cases and lines of artefacts.
+/// What a simulator child that is part of the program answers to its input, whatever its bytes: an exit code, an
+/// output, and the text for the results path of the request. A request has the first of these answers that applies:
+///
+/// - 1 and `no bench`, if no file of the bench's library has the bench;
+/// - 1 and `failed NAME`, if an artefact says that a case fails: the cases are started in order, and the first such
+///   case is the last one;
+/// - 0 and no output: all cases are done.
+///
+/// The answer to any other input is 2 and `bad request`, without results. Each text of a request is copied once. Time
+/// grows as n log n with the cases and the lines of artefacts.
 #[tactic(auto, unfolding(crate::specs::Benches::simulation))]
 pub fn bench(alloc: Global, input: &[u8]) -> Result<Exit, NoMemory>
     ensures { IfOk result (λ exit. exit ≡ simulation input.now) }

@@ -1,4 +1,4 @@
-//! Which of some units are among those that artefacts export.
+//! Which of some units the artefacts of files export.
 
 ghost use Rattle.std.specs.Prelude.{◌≡◌, ◌&&◌, ◌∷◌, ◌++◌, [], List, IfOk, IsTrue, MatchOption, OnOk, None, Some, false, if◌then◌else◌};
 ghost use Rattle.std.specs.List.{list_any};
@@ -140,7 +140,7 @@ fn units_to_find(alloc: Global, units: &[UnitKey]) -> Result<KeyMap<UnitKey, boo
     Ok(flags)
 }
 
-/// Which of some units are exported by the artefacts of files, of which the last is borrowed apart.
+/// Which of some units are exported by the artefacts of `files`, or by `artefact` of a last file in `library`.
 fn flags_of(
     alloc: Global,
     units: &[UnitKey],

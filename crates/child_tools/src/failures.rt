@@ -97,8 +97,8 @@ fn take_files<'a>(
     Ok(())
 }
 
-/// Of the cases of a bench those that artefacts say fail, whatever file these were made of. Time goes by n log n of cases
-/// and lines.
+/// The full names of the cases of a bench that fail: an artefact says so, whatever file it was made of. Time grows as n
+/// log n with the cases and lines.
 pub fn failures_of<'a>(alloc: Global, job: &'a BenchJob) -> Result<Names<'a>, NoMemory>
     ensures { IfOk result (KnowsFailures job.now) }
 {

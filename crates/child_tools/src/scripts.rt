@@ -32,7 +32,7 @@ fn refusal_at(text: &[u8], span: Span) -> Option<&[u8]>
     after_word(b"refuse ", line)
 }
 
-/// What the first script line of a text says after `refuse `, of those that begin so.
+/// What the first script line that begins with `refuse ` says after it; `None` if a text has no such line.
 pub fn first_refusal<'a>(text: &'a [u8], tokens: &Tokens) -> Option<&'a [u8]>
     requires { AreTokensOf text.now tokens.now }
     ensures { MatchOption result
