@@ -89,7 +89,8 @@ fn built_files(
 }
 
 /// The files that were built, after their number, which is at most 4,096. Each file has a library of 1 to 64 bytes, a
-/// path of 1 to 1,024 and an artefact of at most 262,144. `None` if the remaining bytes don't begin with such files.
+/// path of 1 to 1,024 bytes and an artefact of at most 262,144 bytes. `None` if the remaining bytes don't begin with
+/// such files.
 #[tactic(auto, unfolding(crate::specs::Reading::all_built_at))]
 pub fn all_built(alloc: Global, reader: &mut ByteReader<'_>) -> Result<Option<Built>, NoMemory>
     ensures { IfOk result

@@ -131,12 +131,13 @@ pub fn bench_job(alloc: Global, input: &[u8]) -> Result<Option<BenchJob>, NoMemo
 /// output, and the text for the results path of the request. A request has the first of these answers that applies:
 ///
 /// - 1 and `no bench`, if no file of the bench's library has the bench;
-/// - 1 and `failed NAME`, if an artefact says that a case fails: the cases are started in order, and the first such
-///   case is the last one;
+/// - 1 and `failed NAME`, if an artefact says that a case fails: the cases are started in order up to the first such
+///   case;
 /// - 0 and no output: all cases are done.
 ///
-/// The answer to any other input is 2 and `bad request`, without results. Each text of a request is copied once. Time
-/// grows as n log n with the cases and the lines of artefacts.
+/// A bench that names no case itself has the one case `all`, and its results have no start line. The answer to any
+/// other input is 2 and `bad request`, without results. Each text of a request is copied once. Time grows as n log n
+/// with the cases and the lines of artefacts.
 #[tactic(auto, unfolding(crate::specs::Benches::simulation))]
 pub fn bench(alloc: Global, input: &[u8]) -> Result<Exit, NoMemory>
     ensures { IfOk result (λ exit. exit ≡ simulation input.now) }

@@ -95,10 +95,10 @@ fn read_sources<T: Tree>(
     read_files(alloc, tree, query, project)
 }
 
-/// Reads what a query wants of the project in a tree: its graph and, unless the query is for the graph alone, its
-/// tests. A query for what tests need gives the part of the graph that the tests need which one of its patterns
-/// matches. The answer to sources with a fault, or over a limit, is why the reading stops. Each file is read at most
-/// once, and no call changes what the tree holds and lists.
+/// Reads what a query wants of the project in a tree. The answer is the graph of all files or, if the query is for what
+/// tests need, of the files that the selected tests need: the tests that one of its patterns matches. Unless the query
+/// is for the graph alone, all tests of the project come with it. A fault in the sources, or a size over its limit,
+/// stops the reading. Each file is read at most once, and no call changes what the tree holds and lists.
 pub fn read_project<T: Tree>(
     alloc: Global,
     tree: &mut T,

@@ -71,7 +71,7 @@ fn text_of<T: Tree>(
 }
 
 /// The texts of the files, or why the reading stops at the first file that gives no text. The files are asked for in
-/// order, each once.
+/// order, each at most once.
 pub(crate) fn texts_of<T: Tree>(
     alloc: Global,
     tree: &mut T,
