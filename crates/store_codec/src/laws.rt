@@ -21,18 +21,18 @@ pub fn laws_of_request_payloads()
 pub fn laws_of_record_tables()
     // Whatever the payloads, no text and no product has two numbers.
     ensures once { (payloads : List (List ℕ)) → AreNumberedOnce (record_table_of payloads) }
-    // A draft is one of a record exactly where it has all that one has,
+    // `is_request` decides whether the draft of a record is valid on a table,
     ensures request { (table : RecordTable) (draft : RequestDraft) →
         (is_request table draft ≡ true) ↔ IsRequest table draft }
-    // and one of a new product likewise.
+    // and `is_new_product` whether the draft of a product is valid and its product new.
     ensures product { (table : RecordTable) (draft : ProductDraft) →
         (is_new_product table draft ≡ true) ↔ IsNewProduct table draft }
-    // The payload of such a record adds it, with its texts and its product where these aren't there;
+    // The payload of a valid record adds it, with its texts and its product if the table lacks them;
     ensures adds { (table : RecordTable) (draft : RequestDraft) → IsRequest table draft →
         IsSpellable (OfRequest draft) →
         after_request_payload table (request_payload_bytes (OfRequest draft))
         ≡ with_request table draft }
-    // that of a new product adds it, and no record.
+    // the payload of a new product adds the product, and no record.
     ensures adds_product { (table : RecordTable) (draft : ProductDraft) →
         IsNewProduct table draft → IsSpellable (OfProduct draft) →
         after_request_payload table (request_payload_bytes (OfProduct draft))
