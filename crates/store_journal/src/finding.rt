@@ -24,9 +24,9 @@ pub enum FoundForm<N, O> {
 }
 
 impl Journal {
-    /// Opens the journal of the newer one of two forms on a disk, or that of the older one where it alone is live; where
-    /// neither is, an empty one of the newer form is made. It syncs both sides and reads how each begins, once for both
-    /// forms, and then reads the side that counts alone, whose payloads it hands to the visitor for that form.
+    /// Opens the journal of the newer of two forms on a disk, or that of the older one if it alone is live. If neither is
+    /// live, it makes an empty journal of the newer form. It syncs both sides and reads the beginning of each, once for both
+    /// forms. Then it reads only the side that counts, and hands its payloads to the visitor for that form.
     pub fn found_in<D: Disk, N: Visitor + Drop, O: Visitor + Drop>(
         alloc: Global,
         disk: &mut D,
@@ -51,11 +51,11 @@ impl Journal {
             let reads = reads_of (D.moments disk.old).now in
             IsHealthy (found_form newer older reads) reads →
             Rests result (D.moments disk.old) (D.moments disk.new) }
-        // It is the older form exactly where that alone is live,
+        // The journal is of the older form exactly if that alone is live,
         ensures found { D.tells →
             let reads = reads_of (D.moments disk.old).now in
             IfOk result (λ found. (found_journal found).form ≡ found_form newer older reads) }
-        // and alone it stays, so that a side of the newer one can be made.
+        // and then the newer form is still not live, so that a side of it can be made.
         ensures alone { D.tells →
             IfOk result
             (λ found.

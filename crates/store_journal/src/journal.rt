@@ -253,8 +253,8 @@ impl Journal {
         ReadySide::new(alloc, form, 1, payloads)
     }
 
-    /// Puts a prepared side of another form beside the one that counts, which stays as it is: the journal is one of the new
-    /// form from then on. It takes no memory.
+    /// Writes a prepared side of another form in place of the side that doesn't count. The side that counts is unchanged. After
+    /// `Ok` the journal is of the new form. It takes no memory.
     pub fn change_form<D: Disk>(&mut self, disk: &mut D, side: ReadySide) -> Result<(), DiskFailed>
         requires usable { self.old.broken ≡ false }
         requires form { side.form ≢ self.old.form }
@@ -266,13 +266,13 @@ impl Journal {
         ensures changed { D.tells →
             OnOk result
             (payloads side.form (reads_of (D.moments disk.new).now) ≡ side.payloads) }
-        // At any moment, after a fault too, a stop can leave the old form as it was, and the new one not live, or with the new
-        // payloads.
+        // At any moment, after a fault too, a stop leaves the payloads of the old form unchanged. The new form is not live, or
+        // is live with the new payloads.
         ensures any_moment { D.tells →
             AtAnyMoment (D.moments disk.old) (D.moments disk.new)
             (ChangesForm self.old.form side.form
             (payloads self.old.form (reads_of (D.moments disk.old).now)) side.payloads) }
-        // Once the new form is live in each image, it is live in each.
+        // Once the new form is live in each image, it stays live in each.
         ensures loses { D.tells →
             NeverLoses (D.moments disk.old) (D.moments disk.new)
             (λ image. has_form side.form image ≡ true) }

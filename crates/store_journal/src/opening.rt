@@ -94,12 +94,12 @@ pub(crate) fn open_sides<D: Disk, T: Visitor + Drop>(
     ensures any_moment { D.tells →
         AtAnyMoment (D.moments disk.old) (D.moments disk.new)
         (λ image. payloads form image ≡ payloads form (reads_of (D.moments disk.old).now)) }
-    // Where the form is live, each form is live where it was, with the payloads that it had.
+    // If the form is live at entry, each form keeps its payloads, and is live exactly if it was.
     ensures holds { D.tells →
         has_form form (reads_of (D.moments disk.old).now) ≡ true →
         AtAnyMoment (D.moments disk.old) (D.moments disk.new)
         (HoldsSame (reads_of (D.moments disk.old).now)) }
-    // Where it isn't, no other form becomes live.
+    // If the form is not live at entry, no other form becomes live.
     ensures apart { D.tells →
         has_form form (reads_of (D.moments disk.old).now) ≡ false →
         (other : ℕ) → other ≢ form →

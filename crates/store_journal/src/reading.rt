@@ -41,8 +41,8 @@ fn head_in(bytes: &[u8]) -> Head
     }
 }
 
-/// How many bytes the payload has that a commit byte opens, before which so many are left, if it opens one: a payload has one
-/// more commit byte after it.
+/// The length of the payload that a commit byte opens, if it opens one. `left` is the number of bytes from that commit byte to
+/// the end of the side: the payload and one more commit byte after it must lie within them.
 fn count_after(head: Head, left: u64) -> Option<u32>
     ensures is { (bytes : List ℕ) → length bytes ≡ left →
         take 5 bytes ≡ head.commit_byte ∷ number_bytes head.count → IsCountOf bytes result }
@@ -57,8 +57,7 @@ fn count_after(head: Head, left: u64) -> Option<u32>
     Some(head.count)
 }
 
-/// Hands the payload of so many bytes at an offset to a visitor. One that is longer than a window is read into a buffer of its
-/// own at once.
+/// Hands the payload in a span to a visitor. A payload that is longer than a window is read at once, into a buffer of its own.
 fn read_payload<D: Disk, T: Visitor>(
     alloc: Global,
     disk: &mut D,
@@ -96,7 +95,7 @@ fn read_payload<D: Disk, T: Visitor>(
     Ok(())
 }
 
-/// How many bytes the payload has that the commit byte at an offset opens, if it opens one.
+/// The length of the payload that the commit byte at an offset opens, if it opens one.
 fn next_count<D: Disk>(
     disk: &mut D,
     live: Live,

@@ -30,7 +30,7 @@ impl Model for Ready {
 }
 
 impl Ready {
-    /// Begins what is written of a payload of so many bytes with its length, in room for all of it.
+    /// Begins the frame of a payload of `size` bytes: reserves room for the whole frame and writes the length.
     pub fn begin(alloc: Global, size: usize) -> Result<ByteWriter, NoMemory>
         requires { size < 2 ^ 32 }
         ensures { IfOk result (λ frame. frame ≡ number_bytes size) }
@@ -40,7 +40,7 @@ impl Ready {
         Ok(frame)
     }
 
-    /// The payload that was written after its length, which is moved in, with a closed commit byte after it.
+    /// Ends a frame, which has the length of a payload and its bytes, with a closed commit byte. The bytes are moved in.
     pub fn of(frame: ByteWriter) -> Result<Ready, NoMemory>
         requires length { frame ≡ text_bytes (drop 4 frame) }
         requires small { length (drop 4 frame) < 2 ^ 32 }

@@ -9,7 +9,7 @@ use crate::layout::{FormHeaders, Header, Headers, header_of};
 use outside::{Disk, Side, StoreFault};
 use std::alloc::Global;
 
-/// So many bytes of a side, from an offset on.
+/// The `count` bytes of a side from the offset `at` on.
 pub fn read_some<D: Disk>(
     alloc: Global,
     disk: &mut D,

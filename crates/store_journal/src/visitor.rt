@@ -1,4 +1,4 @@
-//! What takes the payloads of a journal as they are read.
+//! The visitor that takes the payloads of a journal while the journal is read.
 
 ghost use Rattle.std.specs.Prelude.{◌≡◌, ℕ, List, ◌<◌, ◌^◌, ◌++◌, [], ◌∷◌, length, OnOk};
 
@@ -6,7 +6,7 @@ use crate::Payloads;
 use base::NoMemory;
 use std::alloc::Global;
 
-/// What takes the payloads of a journal as they are read, one after the other.
+/// Takes the payloads of a journal, one after the other, while the journal is read.
 pub trait Visitor: Sized {
     /// The payloads that it has taken.
     ghost taken: { Self → List (List ℕ) };

@@ -1,4 +1,4 @@
-//! Part of a side at a time, so that no more of it is held than what is kept.
+//! A window on a side. Reading window by window avoids holding the whole side in memory.
 
 ghost use Rattle.std.specs.Prelude.{◌≡◌, ◌≤◌, ◌+◌, ◌↔◌, ℕ, List, length, IsTrue, OnOk};
 ghost use Rattle.outside.specs.Counts.{StoreCounts};
@@ -9,10 +9,10 @@ use crate::layout::Live;
 use outside::{Disk, StoreFault};
 use std::alloc::Global;
 
-/// How many bytes of a side are read at once, where so many are left.
+/// The number of bytes of a side that are read at once, unless fewer are left.
 pub const WINDOW: u64 = 131_072;
 
-/// So many bytes from an offset on.
+/// The `count` bytes from the offset `start` on.
 #[derive(Clone, Copy)]
 pub struct Span {
     pub start: u64,
@@ -37,7 +37,7 @@ impl Window {
         }
     }
 
-    /// Whether so many bytes from an offset on are among these.
+    /// Whether the window has all bytes of a span.
     fn has(&self, span: Span) -> bool
         ensures { IsTrue result ↔ Covers self.now span.start span.count }
     {
@@ -62,7 +62,7 @@ impl Window {
     }
 }
 
-/// How many bytes are read at once: so many at least, and no more than are left.
+/// The number of bytes to read at once: at least `count` and at most `left`.
 fn window_size(count: u64, left: u64) -> u64
     requires { count ≤ left }
     ensures enough { count ≤ result }
@@ -74,7 +74,7 @@ fn window_size(count: u64, left: u64) -> u64
     if count < WINDOW { WINDOW } else { count }
 }
 
-/// Reads on, where some bytes of the side that counts aren't in the window.
+/// Refills the window from the start of a span of the live side, unless it has all bytes of the span.
 pub fn cover<D: Disk>(
     disk: &mut D,
     live: Live,
