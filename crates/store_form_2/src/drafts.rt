@@ -93,7 +93,7 @@ fn row_of(
     })
 }
 
-/// The row of a draft that is no node yet, of a text that is there or new, and whose dependencies are there.
+/// The row of a draft. There is no row if the node already exists, or if the draft's text or a dependency is invalid.
 pub fn new_row(
     alloc: Global,
     table: &mut NodeTable,

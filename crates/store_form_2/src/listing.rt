@@ -1,4 +1,4 @@
-//! Whether the dependencies of a new node are listed as its own ones are.
+//! Whether a new node lists the dependencies of each dependency before that dependency, in the same order.
 
 ghost use Rattle.std.specs.Prelude.{◌≡◌, ◌≢◌, ◌⊎◌, ◌↔◌, ◌<◌, ◌≤◌, length, All, AllPairs, Contains, IsTrue, IfOk, OnOk};
 ghost use Rattle.store_form_2.specs.Fitting.{IsListed};
@@ -8,7 +8,8 @@ use crate::NodeTable;
 use base::NoMemory;
 use base_collections::NumberSet;
 
-/// Whether some numbers occur among the first so many of a set, in its order; they are noted as covered as far as they do.
+/// Whether the numbers of a list occur among the first `count` numbers of a set, in the same order. Each number that does is
+/// added to `covered`, until one does not.
 fn is_listed(
     deps: &NumberSet,
     covered: &mut NumberSet,
@@ -55,8 +56,8 @@ fn fill(set: &mut NumberSet, numbers: &[usize]) -> Result<(), NoMemory>
     Ok(())
 }
 
-/// Whether each of these nodes, which all differ, lists its own dependencies as they are listed here. A node that a later
-/// one lists is passed over.
+/// Whether the dependencies of each of these nodes are among the nodes before it, in the same order. The nodes all differ. A
+/// node that a later one lists is skipped.
 pub fn are_listed(
     set: &mut NumberSet,
     covered: &mut NumberSet,

@@ -32,7 +32,7 @@ impl Model for NodeCheck {
     ghost view = { λ a. a.lengths.items };
 }
 
-/// Whether the name, the command and the text of a row, which has so many bytes, are of the sizes of a graph.
+/// Whether the name, the command and the text of a row are within the limits of a graph. The text has `own` bytes.
 fn has_own_sizes(table: &NodeTable, row: &Row, own: usize) -> bool
     requires { IsRowIn table.now.names table.now.commands row.now }
     ensures { IsTrue result
@@ -65,8 +65,8 @@ impl NodeCheck {
         Ok(())
     }
 
-    /// Whether a row is a new node that fits those that it depends on, with a text of so many bytes. It takes time in
-    /// proportion to the lists of those dependencies that no later one lists.
+    /// Whether a row, with a text of `own` bytes, fits its dependencies and the limits of a graph. Of its dependencies, it walks
+    /// only the lists of the ones that no later dependency lists.
     pub fn is_current(&mut self, table: &NodeTable, row: &Row, own: usize) -> Result<bool, NoMemory>
         requires in_table { IsRowIn table.now.names table.now.commands row.now }
         requires there { All (λ dep. dep < length table.now.nodes) row.now.deps }

@@ -100,7 +100,7 @@ fn numbers_of(alloc: Global, rows: &[RankedRow<'_>]) -> Result<Items<usize>, NoM
     Ok(numbers)
 }
 
-/// The numbers of the records that stand as requests, those over fewer files first, and of as many by name.
+/// The numbers of the records that stand as requests, sorted by their number of dependencies, then by name.
 pub fn migrated_rows(
     alloc: Global,
     table: &NodeTable,
@@ -108,7 +108,7 @@ pub fn migrated_rows(
     nodes: &[usize],
 ) -> Result<Items<usize>, NoMemory>
     requires { AreRecordRows table.now names.now.fingerprints nodes.now }
-    // Their requests are those that stand for the records of views.
+    // Their requests are the migrated requests of the records, taken as records of views.
     ensures is { IfOk result (λ rows. (texts : List (List ℕ)) (records : List NodeRecord) →
         AreOfNodes nodes.now records → AreNodes texts table.now.nodes →
         filter_map (row_request texts table.now.nodes records) rows

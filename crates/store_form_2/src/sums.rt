@@ -6,7 +6,8 @@ ghost use Rattle.store_form_2.specs.Fits.{length_at};
 use crate::NodeTable;
 use base::GRAPH_TEXT_LIMIT;
 
-/// Whether the texts of these nodes, of these lengths, and a text of so many bytes more, have at most 67,108,864 bytes.
+/// Whether the texts of these nodes and one more text, of `own` bytes, have at most 67,108,864 bytes together. `lengths` has the
+/// length of each text by its number.
 pub fn are_small(table: &NodeTable, lengths: &[usize], deps: &[usize], own: usize) -> bool
     requires there { All (λ dep. dep < length table.now.nodes) deps.now }
     requires texts { All (λ node. node.text < length lengths.now) table.now.nodes }

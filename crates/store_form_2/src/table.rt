@@ -68,7 +68,7 @@ impl NodeTable {
         self.names.key(number)
     }
 
-    /// The number of a name, which is added where it has none. The nodes are unchanged, and after `NoMemory` the names too.
+    /// The number of a name, which is added if it is new. The nodes are unchanged, and after `NoMemory` the names too.
     pub fn add_name(&mut self, name: FileName) -> Result<usize, NoMemory>
         ensures ok { IfOk result (λ number. IsNumbered name number self.old.names self.new.names) }
         ensures err { OnErr result (self.new.names ≡ self.old.names) }
@@ -87,8 +87,7 @@ impl NodeTable {
         &self.commands.key(number).words
     }
 
-    /// The number of a command, which is added where it has none. The nodes are unchanged, and after `NoMemory` the
-    /// commands too.
+    /// The number of a command, which is added if it is new. The nodes are unchanged, and after `NoMemory` the commands too.
     pub fn add_command(&mut self, words: TextList) -> Result<usize, NoMemory>
         ensures ok { IfOk result
             (λ number. IsNumbered words number self.old.commands self.new.commands) }
