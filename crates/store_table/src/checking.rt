@@ -31,7 +31,7 @@ fn number_below(number: u64, bound: usize) -> Option<usize>
     }
 }
 
-/// The number that a new text will have, where it isn't there.
+/// The number that a text will get if it is added. `None` if the table already has the text.
 fn new_number(held: &HeldPayloads<'_>, texts: &LocatedTexts, text: &[u8]) -> Option<usize>
     requires { AreTextsLocated held.now.segments texts.now }
     ensures { SomeIff result (¬ Contains (located_texts held.now.segments texts.now) text.now)
@@ -43,7 +43,8 @@ fn new_number(held: &HeldPayloads<'_>, texts: &LocatedTexts, text: &[u8]) -> Opt
     }
 }
 
-/// The number of a text, where it is there or new as it says.
+/// The number of the text that a reference means. `None` for a known number that doesn't exist, and for a full text that isn't
+/// new.
 pub fn number_of_ref(
     held: &HeldPayloads<'_>,
     texts: &LocatedTexts,
@@ -80,7 +81,8 @@ fn text_of_source<'a>(
     }
 }
 
-/// The number that a new text will have after another new one, where it isn't there.
+/// The number that a text will get if it is added after another new one. `None` if it equals that one, or if the table already
+/// has it.
 fn number_of_second(
     held: &HeldPayloads<'_>,
     texts: &LocatedTexts,
@@ -101,7 +103,7 @@ fn number_of_second(
     }
 }
 
-/// The number of a text after a new one, where it is there or new as it says.
+/// The number of the text that a reference means after a new text is added. `None` if the reference is invalid after that.
 fn number_after_text(
     held: &HeldPayloads<'_>,
     texts: &LocatedTexts,
@@ -119,7 +121,8 @@ fn number_after_text(
     }
 }
 
-/// The number of a text after one that may be new, where it is there or new as it says.
+/// The number of the text that the second of two references means after the text of the first one is added, if it is new. `None`
+/// if the second reference is invalid after that.
 fn number_after(
     held: &HeldPayloads<'_>,
     texts: &LocatedTexts,
@@ -140,7 +143,7 @@ fn number_after(
     }
 }
 
-/// The text of a number among those that are there and a new one.
+/// The text of a number, among the texts of the table and a new one after them.
 fn text_or<'a>(
     held: &'a HeldPayloads<'_>,
     texts: &LocatedTexts,

@@ -26,14 +26,15 @@ use base_collections::NumberSet;
 use std::alloc::Global;
 use store_codec::{PayloadRanges, RequestRanges, read_request_payload};
 
-/// The payload of a record without its text, and where the parts of the record are in what is left, its text by its number.
+/// The payload of a record without its text, and the ranges of the record's parts in the remaining bytes. The text is given by
+/// its number.
 #[derive(Drop)]
 pub struct CutRequest {
     pub payload: CutPayload,
     pub draft: RequestRanges,
 }
 
-/// Whether a range ends before another one begins, so that its bytes stay where they are without those of the other one.
+/// Whether a range ends before another one begins. If so, its bytes keep their offset when those of the other one are removed.
 fn is_before(range: ByteRange, cut: ByteRange) -> bool
     ensures { (bytes rest : List ℕ) → IsWithout bytes cut rest →
         IsTrue result → ranged rest range ≡ ranged bytes range }
@@ -41,7 +42,7 @@ fn is_before(range: ByteRange, cut: ByteRange) -> bool
     range.start <= cut.start && range.count <= cut.start - range.start
 }
 
-/// Where a range is that begins after another one has ended, without the bytes of that one.
+/// The range that has the same bytes once those of another range are removed. `None` unless it begins after the other one ends.
 fn shift_past(range: ByteRange, cut: ByteRange) -> Option<ByteRange>
     ensures from { (bytes rest : List ℕ) → IsWithout bytes cut rest →
         IfSome result (λ new. drop new.start rest ≡ drop range.start bytes) }
@@ -59,7 +60,7 @@ fn shift_past(range: ByteRange, cut: ByteRange) -> Option<ByteRange>
     })
 }
 
-/// The same of a text that is there or new.
+/// The same for a text reference.
 fn moved_ref(source: TextRange, cut: ByteRange) -> Option<TextRange>
     ensures { (bytes rest : List ℕ) → IsWithout bytes cut rest →
         IfSome result (λ new. ref_in_range rest new ≡ ref_in_range bytes source) }
@@ -73,7 +74,8 @@ fn moved_ref(source: TextRange, cut: ByteRange) -> Option<TextRange>
     }
 }
 
-/// Where the parts of a record are without its text, which has a number; none where a part is in the text.
+/// The ranges of a record's parts once its text is removed and given by its number. `None` unless the name of the record is
+/// before the text, and its dependencies and its artefact after it.
 fn moved_request(draft: RequestRanges, cut: ByteRange, number: u64) -> Option<RequestRanges>
     ensures source { IfSome result (λ new. new.source ≡ Known number) }
     ensures words { IfSome result (λ new. new.words ≡ draft.words) }
@@ -110,15 +112,15 @@ fn without(alloc: Global, bytes: &[u8], range: ByteRange) -> Result<Text, NoMemo
     Ok(Text::from_vec(rest))
 }
 
-/// Whether so many bytes have a range.
+/// Whether a range lies within `len` bytes.
 fn has_range(len: usize, range: ByteRange) -> bool
     ensures { IsTrue result → range_end range ≤ len }
 {
     range.start <= len && range.count <= len - range.start
 }
 
-/// The payload of a record without the text that it has in a range, where its words are these of a file, and none of its parts is
-/// in the text.
+/// The payload of a record without its text, which is in a range. `None` if the file's command is empty or differs from the
+/// record's, or if the range isn't within the payload, after the record's name and before its dependencies and its artefact.
 fn cut_request(
     alloc: Global,
     payload: &[u8],
@@ -365,8 +367,8 @@ fn take_whole(
     Ok(())
 }
 
-/// Takes up one more payload. The text that a record has is borrowed from the file of its name, if that has the same text and the
-/// same words, and else is copied with the payload, which is borrowed for this call alone.
+/// Takes up one more payload, which is borrowed for this call alone. If the file of a record's name has the same text and the
+/// same words, the text is borrowed from that file. Otherwise the whole payload is copied.
 pub fn take_payload(
     alloc: Global,
     table: &mut LocatedTable,

@@ -1,5 +1,5 @@
-//! The payloads of a store: those that it was opened with, and each later one as it was written. Where the text of a record is
-//! borrowed from the file of its name, the other bytes of the payload alone are held.
+//! The payloads of a store: the ones read at its opening, then each one that was written since. If the text of a record is
+//! borrowed from the file of its name, only the other bytes of the payload are held.
 
 ghost use Rattle.std.specs.Prelude.{◌≡◌, ◌↔◌, ◌<◌, ◌++◌, ◌∷◌, [], length, map, slice_get, Some, IfSome, IsTrue, OnOk};
 ghost use Rattle.store_table.specs.Located.{held_segment, nth_payload, with_cut};
@@ -9,7 +9,8 @@ use std::alloc::Global;
 use std::marker::Model;
 use store_journal::{Payloads, Ready};
 
-/// A payload without the text of the file of a number, which is between so many of its bytes and the others.
+/// A payload without its text, which is that of the file of the number `file`. The text belongs after the first `at` bytes of
+/// `rest`.
 #[derive(Drop)]
 pub struct CutPayload {
     pub rest: Text,
@@ -17,7 +18,7 @@ pub struct CutPayload {
     pub file: usize,
 }
 
-/// A payload as it is held: all of its bytes, or those that aren't borrowed, or as it was written.
+/// How a payload is held: all of its bytes, only the bytes that aren't borrowed, or the payload that was written.
 #[derive(Drop)]
 pub enum HeldPayload {
     Whole(Text),

@@ -1,4 +1,4 @@
-//! Putting on a table what is known to be one more record or product, in room that was made: it takes no memory.
+//! Adding a record or a product that was checked before to a table, in room that was reserved: it takes no memory.
 
 ghost use Rattle.std.specs.Prelude.{◌≡◌, ◌≤◌, ◌<◌, ◌+◌, ◌∷◌, ◌++◌, [], true, length};
 ghost use Rattle.base_collections.specs.Numbers.{IsIndexOf};
@@ -15,7 +15,7 @@ use base_bytes::TextRange;
 use base_collections::Numbered;
 use store_codec::{ProductRanges, RequestRanges};
 
-/// Puts a text at the end, where it is new.
+/// Puts a text at the end, if it is new.
 fn put_ref(texts: &mut LocatedTexts, held: &HeldPayloads<'_>, at: usize, source: TextRange)
     requires room { 0 < text_room texts.old }
     requires at { at < length held.now.segments }
@@ -35,7 +35,7 @@ fn put_ref(texts: &mut LocatedTexts, held: &HeldPayloads<'_>, at: usize, source:
     }
 }
 
-/// The number of a product, which is put at the end where it isn't there.
+/// The number of a product, which is put at the end if it is new.
 fn put_row(products: &mut Numbered<ProductRow>, row: ProductRow) -> usize
     requires { 0 < products.old.room }
     ensures { PutsProduct row result products.old.keys products.new.keys }
@@ -50,7 +50,7 @@ fn put_row(products: &mut Numbered<ProductRow>, row: ProductRow) -> usize
     }
 }
 
-/// Puts a record, which a payload has, with its texts and its product where these aren't there.
+/// Puts the record of a payload, with its texts and its product if the table lacks them.
 pub fn put_request(
     table: &mut LocatedTable,
     held: &HeldPayloads<'_>,

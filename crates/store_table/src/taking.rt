@@ -17,7 +17,7 @@ use base_collections::NumberSet;
 use std::alloc::Global;
 use store_codec::{PayloadRanges, ProductRanges, RequestRanges, read_request_payload};
 
-/// The number of a name, which is added where it has none. What is placed stands for what it stood for.
+/// The number of a name, which is added if it is new. The texts, products and records of the table are unchanged.
 pub fn number_name(table: &mut LocatedTable, name: FileName) -> Result<usize, NoMemory>
     ensures named { IfOk result (IsNameNumber table.new.names.keys name) }
     ensures are { (payloads : List (List ℕ)) →
@@ -30,7 +30,7 @@ pub fn number_name(table: &mut LocatedTable, name: FileName) -> Result<usize, No
     Ok(number)
 }
 
-/// Numbers the names of files, in their order, of those that have no number. What is placed stands for what it stood for.
+/// Adds the names of files that are new, in the order of the files. The texts, products and records of the table are unchanged.
 pub fn number_names(
     alloc: Global,
     table: &mut LocatedTable,
