@@ -1,4 +1,4 @@
-//! The calls of an object: which of them are to fail, how many were made, and how many faults they counted.
+//! The calls of an object: which calls fail, how many were made, and how many faults they counted.
 ghost use Rattle.std.specs.Prelude.{◌≡◌};
 ghost use Rattle.outside.specs.Counts.{Counted};
 ghost use Rattle.memory_outside.specs.Failing.{fails_next, next_call, no_calls};
@@ -6,7 +6,7 @@ ghost use Rattle.memory_outside.specs.Failing.{fails_next, next_call, no_calls};
 use base::Numbers;
 use outside::count_fault;
 
-/// The calls of an object. `failing` has the numbers of those that are to fail, counted from 0.
+/// The calls of an object. `failing` has the numbers of the calls that fail, counted from 0.
 #[derive(Drop)]
 pub struct Calls {
     pub failing: Numbers,

@@ -46,7 +46,7 @@ impl MemTree {
         }
     }
 
-    /// Puts a path at the end of what was asked for.
+    /// Adds a path at the end of the list of requested paths.
     fn note(&mut self, alloc: Global, path: &Text) -> Result<(), NoMemory>
         ensures files { self.new.files ≡ self.old.files }
         ensures asked { OnOk result (self.new.asked ≡ self.old.asked ++ path.now ∷ []) }

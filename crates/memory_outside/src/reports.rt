@@ -12,7 +12,7 @@ use outside::{ReportFault, Reports, count_fault};
 use std::alloc::Global;
 use std::marker::Model;
 
-/// Reports in memory. All that was written is kept.
+/// Reports in memory. Each report that was written is kept.
 #[derive(Drop)]
 pub struct MemReports {
     alloc: Global,

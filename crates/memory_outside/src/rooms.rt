@@ -53,7 +53,7 @@ impl<T> RoomItems<T> {
         &self.list[i as usize]
     }
 
-    /// Makes room for so many more items. After `NoMemory` the list is unchanged.
+    /// Makes room for `more` more items. After `NoMemory` the list is unchanged.
     pub fn reserve(&mut self, more: usize) -> Result<(), NoMemory>
         ensures items { self.new.items ≡ self.old.items }
         ensures room { OnOk result (length self.old.items + more ≤ self.new.room) }

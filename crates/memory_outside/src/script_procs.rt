@@ -135,8 +135,8 @@ impl Procs for ScriptProcs {
     }
 }
 
-/// The exit of a request by a table, twice: one for the journal. Where there is no request it is that of an
-/// unknown one.
+/// Two copies of the exit that a table has for a request, one of them for the journal. Without a request, it is the exit of
+/// an unknown request.
 fn two_exits(
     alloc: Global,
     answers: &[Answer],
