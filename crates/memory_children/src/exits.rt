@@ -13,13 +13,13 @@ use child_lines::ends_with;
 use child_tools::{analyse, bench};
 use std::alloc::Global;
 
-/// The code of a command that isn't there.
+/// The exit code of an unknown command.
 const UNKNOWN_CODE: u32 = 127;
 
-/// The code of a child that ended well but printed more than is kept, and was to leave no results.
+/// The exit code of a child that ended with code 0 but printed more than is kept, if its request names no path for results.
 const CUT_CODE: u32 = 257;
 
-/// The second word of a command, or no bytes where it has none.
+/// The second word of a command, or no bytes if the command is shorter.
 fn second_word(command: &[Text]) -> &[u8]
     ensures { result.now ≡ second_word command.now }
 {
@@ -29,7 +29,7 @@ fn second_word(command: &[Text]) -> &[u8]
     }
 }
 
-/// How a child ends that has this second word, whatever is taken of it.
+/// How a child with this second word ends, before its output and its results are limited.
 #[tactic(auto, unfolding(crate::specs::Answers::child_end))]
 fn child_end(alloc: Global, word: &[u8], input: &[u8]) -> Result<Exit, NoMemory>
     ensures { (scan : List ℕ → Finding) → IsScanner scan →
@@ -50,7 +50,7 @@ fn is_cut(output: &Text) -> bool
     output.bytes().len() > ARTEFACT_LIMIT
 }
 
-/// The code that is taken, by whether the output is cut and where results are to be left.
+/// The code of an exit, by whether the output was cut and whether the request names a path for results.
 fn taken_code(code: u32, more: bool, path: &MaybeText) -> u32
     ensures { result ≡ cut_code code more path.now }
 {
@@ -93,7 +93,7 @@ fn taken_results(path: &MaybeText, left: MaybeText) -> MaybeText
     }
 }
 
-/// What is taken of an end, by where results are to be left.
+/// The exit that is made of an end, by the path that the request names for results.
 #[tactic(auto, unfolding(crate::specs::Answers::taken_exit))]
 fn take_exit(path: &MaybeText, end: Exit) -> Exit
     ensures is { result ≡ taken_exit path.now end }
@@ -125,7 +125,7 @@ fn exit_of(alloc: Global, request: &Request) -> Result<Exit, NoMemory>
     Ok(take_exit(&request.results, end))
 }
 
-/// The same, twice.
+/// Two copies of the exit of a child that was started with a request.
 pub fn two_exits(alloc: Global, request: &Request) -> Result<(Exit, Exit), NoMemory>
     ensures same { IfOk result (λ exits. exits.1 ≡ exits.0) }
     ensures answer { (scan : List ℕ → Finding) → IsScanner scan →

@@ -14,11 +14,14 @@ use memory_outside::{ChildLog, EventList};
 use outside::{Ended, Procs, StartFault, WaitFault};
 use std::alloc::Global;
 
-/// Children that answer as those of the program do, by the second word of their command: with `child-analyse` as the
-/// compiler that is part of it, with `child-bench` as the simulator, and with any other, or none, by code 127, no output and
-/// no results. Of an output the first 262,144 bytes are kept, with code 257 where more was printed and the code would be
-/// 0, unless the request names a path for results. Results come only where it does, and where they have at most 1,048,576
-/// bytes.
+/// Children that answer as the child processes of the program do. The second word of the command decides:
+///
+/// - `child-analyse`: the answer of the compiler that is part of the program,
+/// - `child-bench`: the answer of the simulator that is part of the program,
+/// - any other word, or no second word: code 127, without output or results.
+///
+/// The first 262,144 bytes of an output are kept. If more was printed, the code 0 becomes 257, unless the request names a path
+/// for results. Results are given only if the request names such a path, and if they have at most 1,048,576 bytes.
 #[derive(Drop)]
 pub struct LoopProcs {
     child_log: ChildLog,
@@ -123,8 +126,8 @@ impl Procs for LoopProcs {
 }
 
 impl LoopProcs {
-    /// The exit of the child of a ticket, twice: one for the journal. Where there is no such child it is that of a command
-    /// that isn't there.
+    /// Two copies of the exit of the child of a ticket, one of them for the journal. Without such a child, it is the exit of an
+    /// unknown command.
     fn exits(&self, alloc: Global, ticket: u64) -> Result<(Exit, Exit), NoMemory>
         ensures same { IfOk result (λ exits. exits.1 ≡ exits.0) }
         ensures sizes { IfOk result (λ exits. FitsExit exits.0) }
