@@ -15,8 +15,8 @@ struct Beside {
     file: File,
 }
 
-/// Writes bytes to a new file in a folder, which is that of a path, and moves it to the path. The new file has the permissions
-/// of what was there. It is removed if anything fails.
+/// Writes bytes to a new file in the folder of a path, and moves the file to the path. The new file gets the permissions of
+/// the file that it replaces, if there is one. It is removed if anything fails.
 pub fn write_beside(
     runtime: HostRuntime,
     folder: &str,
@@ -33,7 +33,7 @@ pub fn write_beside(
         Err(cause) => Err(cause),
     };
     if moved.is_err() {
-        // That the path is as it was doesn't depend on it.
+        // The path is unchanged, even if the new file can't be removed.
         let _ = fs::remove_file(&runtime, beside.as_str());
     }
     moved
@@ -59,7 +59,7 @@ fn make_new(runtime: HostRuntime, path: &str) -> io::Result<File> {
         .open(&runtime, path)
 }
 
-/// Writes all bytes of a new file, which is on the device afterwards, and closes it.
+/// Writes all bytes to a new file, syncs it to the device and closes it.
 fn fill(mut file: File, there: Option<Metadata>, bytes: &[u8]) -> io::Result<()> {
     if let Some(there) = there {
         file.set_permissions(there.permissions())?;

@@ -1,4 +1,4 @@
-//! Why a call of the system gave nothing.
+//! Why a call of the system failed.
 
 ghost use Rattle.std.specs.Prelude.{◌≡◌, MatchResult};
 
@@ -10,12 +10,12 @@ use std::io;
 /// A call of the system that failed, and what the system said.
 #[derive(Clone, Copy)]
 pub struct Cause {
-    /// What was asked for, as `open`.
+    /// The name of the call or of its purpose, such as `open`.
     pub call: &'static str,
     pub error: io::Error,
 }
 
-/// The answer of a call, which is named where it failed.
+/// The answer of a call, with the name of the call if it failed.
 pub fn name_cause<T: Drop>(call: &'static str, answer: io::Result<T>) -> Result<T, Cause>
     ensures { MatchResult result
         (λ value. answer ≡ Ok value)

@@ -12,10 +12,10 @@ use outside::{Disk, Side, count_fault};
 use std::alloc::Global;
 use std::{io, mem};
 
-/// What became of the files so far.
+/// The state of the files.
 #[derive(Drop)]
 enum State {
-    /// No call was made, or none since the disk let its files go.
+    /// No call was made yet, or none since a rest closed the files.
     Fresh,
     Open(Sides),
     /// A call failed, and so does every later one. Files that were open stay so, and locked: children may still run.
@@ -50,7 +50,7 @@ impl FileDisk {
         })
     }
 
-    /// Why the first call of the system failed that did, and the path that it was of.
+    /// The path and the cause of the first call of the system that failed.
     pub fn cause(&self) -> Option<(&[u8], Cause)> {
         let fault = self.fault?;
         Some((self.paths.path_of(fault.part).as_bytes(), fault.cause))

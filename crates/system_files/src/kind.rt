@@ -35,7 +35,7 @@ fn begins_results(text: &[u8]) -> bool {
     text.starts_with(b"test_start:") || text.starts_with(b"test_suite_done")
 }
 
-/// The bytes from the first on that is no blank and no end of a line.
+/// The bytes without the blanks, tabs and line ends at their start.
 fn without_blanks(bytes: &[u8]) -> &[u8] {
     for at in 0..bytes.len() {
         if !is_blank(bytes[at]) {

@@ -1,11 +1,14 @@
-//! Calls of the system that failed, and locations in files, as a user reads of them.
-//! Which process has locked a file.
-//! Lines on standard error, which never keep the program waiting for whoever reads them.
-//! A disk over two files of the system.
-//! Files and streams of the system: reading of a reader or of a file, by lines, to its end or up to a limit; the present folder as a
-//! tree of files; standard input and standard output.
-//! Reports in files of the system.
-//! How many records of a store can't be read: both sides are looked at as a run begins to read them.
+//! Files and streams of the system:
+//!
+//! - messages about failed calls of the system and about locations in files,
+//! - the process that has locked a file,
+//! - lines on standard error, which are dropped if there is no room for them,
+//! - a disk over two files,
+//! - reading of a reader or of a file, by lines, to its end or up to a limit,
+//! - the present folder as a tree of files,
+//! - standard input and standard output,
+//! - reports in files,
+//! - the number of records of a store that can't be read, which is counted as a run begins to read the store.
 #![tactic(auto)]
 
 mod beside;

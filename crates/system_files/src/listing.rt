@@ -195,7 +195,7 @@ fn join_path(alloc: Global, folder: &str, name: &str) -> Result<String, IoFault>
     Ok(path)
 }
 
-/// A name that isn't UTF-8 as it is shown: with a question mark for each byte that is no printable character of ASCII.
+/// The shown form of a name that isn't UTF-8. A question mark replaces each byte that isn't a printable ASCII character.
 fn text_of_name(alloc: Global, name: &[u8]) -> Result<String, IoFault> {
     let mut shown = String::new(alloc);
     for byte in name {

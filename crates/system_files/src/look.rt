@@ -1,4 +1,4 @@
-//! What both sides of a store hold that can't be read.
+//! Counts the records on both sides of a store that can't be read.
 
 use crate::side::SideBytes;
 use crate::walk::{payloads_behind_header, unread_payloads};
@@ -20,7 +20,7 @@ pub struct Unread {
     pub b: u64,
 }
 
-/// What a side says of itself.
+/// The header of a side.
 #[derive(Clone, Copy)]
 struct Header {
     /// Whether it is live, and of the form that is looked at.
@@ -30,7 +30,7 @@ struct Header {
     generation: u64,
 }
 
-/// A side that counts for nothing.
+/// The header of a side that is neither live nor damaged.
 const NOTHING: Header = Header {
     is_live: false,
     is_damaged: false,
@@ -55,7 +55,7 @@ pub fn unread_records(rt: &HostRuntime, a: &str, b: &str) -> Unread {
     }
 }
 
-/// How many records of a side can't be read, where it counts, or would.
+/// How many records of a side can't be read: 0 unless it counts, or would count but for damaged first bytes.
 fn unread_of(side: &mut Option<SideBytes>, counts: bool, would_count: bool) -> u64 {
     match side {
         Some(side) if counts => unread_payloads(side),
@@ -64,7 +64,7 @@ fn unread_of(side: &mut Option<SideBytes>, counts: bool, would_count: bool) -> u
     }
 }
 
-/// What a side says of itself; one that is missing or too short says nothing.
+/// The header of a side; `NOTHING` if the side is missing or too short.
 fn header_of(side: &mut Option<SideBytes>) -> Header {
     match side {
         Some(side) => match side.bytes(0, HEADER) {

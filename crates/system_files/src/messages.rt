@@ -17,7 +17,7 @@ const PATIENCE: i32 = 2_000;
 const WAIT: i32 = 100;
 
 /// Lines for standard error. A line for which there is no room is dropped and counted, and the count is written once there
-/// is room again. The descriptor stays as it is: other processes share it.
+/// is room again. The modes of the descriptor are never changed, since other processes share it.
 #[derive(Drop)]
 pub struct Messages {
     alloc: Global,
@@ -28,8 +28,8 @@ pub struct Messages {
 }
 
 impl Messages {
-    /// Nothing is written yet. To be made before the program opens a file, which would else have the descriptor of a
-    /// standard error that is closed.
+    /// Nothing is written yet. Call this before the program opens a file: if standard error is closed, the file could get its
+    /// descriptor.
     pub fn new(alloc: Global, out: Stderr) -> Messages {
         let mut messages = Messages {
             alloc,
@@ -54,7 +54,7 @@ impl Messages {
         self.write_or_drop(line, has_room);
     }
 
-    /// Writes what is to be seen for the moment, where there is room for it now. It isn't missed.
+    /// Writes bytes that matter only for the moment, if there is room for them now. Otherwise they are dropped and not counted.
     pub fn show(&mut self, bytes: &[u8]) {
         if self.has_room(0) {
             let _ = self.out.write_all(bytes);
@@ -91,7 +91,7 @@ impl Messages {
         }
     }
 
-    /// Whether a short write doesn't wait now, or within what is left of the patience.
+    /// Whether there is room for a short write, now or within the remaining patience.
     fn waits_for_room(&mut self) -> bool {
         if self.has_room(0) {
             return true;
@@ -108,7 +108,7 @@ impl Messages {
         false
     }
 
-    /// Whether a short write doesn't wait within so many milliseconds. Once nobody can read any more there is never room.
+    /// Whether there is room for a short write within `millis` milliseconds. Once nobody can read any more, there is never room.
     fn has_room(&mut self, millis: i32) -> bool {
         if !self.is_open {
             return false;

@@ -82,8 +82,8 @@ struct Opened {
     is_new: bool,
 }
 
-/// Opens both files, and makes those that are missing. The lock of the first one is asked for before anything else is
-/// done with either, and that of the second as it is opened. They are held until the files are closed.
+/// Opens both files, and makes the missing ones. Each file is locked right after it is opened, the first one before the second
+/// one is opened. The locks are held until the files are closed.
 pub fn open_sides(runtime: HostRuntime, paths: &Paths) -> Result<Sides, PartFault> {
     let folder = paths.folder.as_str();
     of(Part::Folder, "make", make_folder(runtime, folder))?;
@@ -145,7 +145,7 @@ fn make_folder(runtime: HostRuntime, folder: &str) -> io::Result<()> {
 /// Opens a file for reading and writing, or makes it. Nothing is opened at the name of a link, a folder or a device.
 fn open_side(runtime: HostRuntime, path: &str) -> io::Result<Opened> {
     let mut opened = open_or_make(runtime, path)?;
-    // What is meant for a standard stream that was closed must not come into the store.
+    // Output for a standard stream that was closed must not get into the store.
     if opened.file.as_raw_fd() <= 2 {
         opened.file = opened.file.try_clone()?;
     }
@@ -179,8 +179,8 @@ fn open_there(runtime: HostRuntime, path: &str) -> io::Result<Opened> {
     })
 }
 
-/// Fails where the open file isn't the one regular file of this name: one that was removed since, or that has another
-/// name, too, which the other side may have.
+/// Fails unless the open file is the regular file of this name, and has no other name. The file of the name may have been
+/// replaced since, and another name of the file may be that of the other side.
 fn test_named(runtime: HostRuntime, file: &File, path: &str) -> io::Result<()> {
     let found = file.metadata()?;
     let named = fs::symlink_metadata(&runtime, path)?;

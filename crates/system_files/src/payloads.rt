@@ -6,7 +6,7 @@ use base::{
 };
 use base_bytes::ByteReader;
 
-/// At most so many texts and products are there.
+/// Upper bounds on the texts and on the products that exist before or after a payload.
 #[derive(Clone, Copy)]
 pub struct There {
     pub texts: u64,
@@ -21,8 +21,8 @@ struct Reading<'a> {
     end: u64,
 }
 
-/// What is there after the payload from an offset up to another one, where it has the form of one over what is there before.
-/// Whether a new text or product is new isn't looked at.
+/// The bounds after the payload from one offset up to another, by the bounds before it. `None` if the bytes don't have the form
+/// of a payload within those bounds. It isn't checked that a new text or product is new.
 pub fn after_payload(side: &mut SideBytes, at: u64, end: u64, there: There) -> Option<There> {
     let mut reading = Reading { side, at, end };
     let texts = reading.payload(there)?;
@@ -36,7 +36,7 @@ pub fn after_payload(side: &mut SideBytes, at: u64, end: u64, there: There) -> O
 }
 
 impl<'a> Reading<'a> {
-    /// Reads a payload, and gives how many texts are there after it.
+    /// Reads a payload, and gives the bound on the texts after it.
     fn payload(&mut self, there: There) -> Option<u64> {
         match self.byte()? {
             0 => {
@@ -64,13 +64,13 @@ impl<'a> Reading<'a> {
         self.text(1, PATH_LIMIT)
     }
 
-    /// Passes over a text of so many bytes.
+    /// Passes over a text that has from `least` to `most` bytes.
     fn text(&mut self, least: usize, most: usize) -> Option<()> {
         let count = self.count(least, most)?;
         self.pass(u64::from(count))
     }
 
-    /// Passes over a text that is there or new, and gives how many are there then.
+    /// Passes over a text reference, and gives the bound on the texts after it.
     fn text_ref(&mut self, texts: u64, most: usize) -> Option<u64> {
         if self.byte()? == 1 {
             self.text(0, most)?;
@@ -83,7 +83,7 @@ impl<'a> Reading<'a> {
         }
     }
 
-    /// Passes over the numbers of products, of which so many are there.
+    /// Passes over a list of product numbers, which must be below `products`.
     fn products(&mut self, products: u64) -> Option<()> {
         let count = self.count(0, FILE_LIMIT.saturating_sub(1))?;
         let size = 8 * (count as usize).min(FILE_LIMIT);
@@ -95,7 +95,7 @@ impl<'a> Reading<'a> {
         }
     }
 
-    /// Passes over so many bytes.
+    /// Passes over `count` bytes.
     fn pass(&mut self, count: u64) -> Option<()> {
         let after = self.at.saturating_add(count);
         if after > self.end {
@@ -105,7 +105,7 @@ impl<'a> Reading<'a> {
         Some(())
     }
 
-    /// The next bytes, of no more than a window.
+    /// The next `count` bytes, at most a window.
     fn bytes(&mut self, count: usize) -> Option<&[u8]> {
         let at = self.at;
         self.pass(count as u64)?;
@@ -117,7 +117,7 @@ impl<'a> Reading<'a> {
         Some(*byte)
     }
 
-    /// A number of four bytes, where it is from one up to another.
+    /// A number of four bytes, if it is from `least` to `most`.
     fn count(&mut self, least: usize, most: usize) -> Option<u32> {
         let count = ByteReader::new(self.bytes(4)?).u32()?;
         let is_within = least as u64 <= u64::from(count) && u64::from(count) <= most as u64;
@@ -130,7 +130,7 @@ impl<'a> Reading<'a> {
     }
 }
 
-/// Whether so many numbers of eight bytes are all below a number.
+/// Whether the bytes begin with `count` numbers of eight bytes that are all below a limit.
 fn are_below(bytes: &[u8], count: u32, limit: u64) -> bool {
     let mut rest = bytes;
     let mut most: u64 = 0;

@@ -1,11 +1,11 @@
-//! The bytes of a side, of which a part is held at a time.
+//! The bytes of a side, of which one window is held at a time.
 
 use std::alloc::Global;
 use std::fs::{File, OpenOptions};
 use std::io::{Seek, SeekFrom};
 use std::os::unix::fs::FileExt;
 
-/// How many bytes are read at once at least, where so many are left: more than the numbers of the products of a record take.
+/// The number of bytes that are read at once, unless fewer are left. The product numbers of a record take fewer bytes.
 pub const WINDOW: usize = 32_768;
 
 /// An open file of a store, and some of its bytes.
@@ -37,7 +37,7 @@ impl SideBytes {
         self.len
     }
 
-    /// So many bytes from an offset on, at most a window, if they are there.
+    /// The `count` bytes from an offset on, at most a window, if the file has them.
     pub fn bytes(&mut self, at: u64, count: usize) -> Option<&[u8]> {
         if at < self.start || at.saturating_add(count as u64) > self.end_of_held() {
             self.refill(at)?;
@@ -50,7 +50,7 @@ impl SideBytes {
         self.start.saturating_add(self.held.len() as u64)
     }
 
-    /// Reads a window from an offset on, or what is left.
+    /// Reads a window from an offset on, or up to the end of the file if that comes first.
     fn refill(&mut self, at: u64) -> Option<()> {
         let left = self.len.saturating_sub(at).min(WINDOW as u64);
         let count = usize::try_from(left).ok()?;

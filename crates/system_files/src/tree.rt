@@ -62,7 +62,7 @@ impl<R: Files> FileTree<R> {
         self.has_link != Some(false)
     }
 
-    /// Puts a path at the end of what was asked for.
+    /// Adds a path at the end of the list of requested paths.
     fn note(&mut self, alloc: Global, path: &Text) -> Result<(), NoMemory>
         ensures asked { OnOk result (self.new.asked ≡ self.old.asked ++ path.now ∷ []) }
         ensures unchanged { OnErr result (self.new.asked ≡ self.old.asked) }

@@ -1,4 +1,4 @@
-//! Names as they are shown on a line.
+//! Names without control characters, for a line of output.
 
 use base::NoMemory;
 

@@ -1,4 +1,4 @@
-//! Walking over the payloads of a side, and over what is left of some behind a damage.
+//! Walking over the payloads of a side, and over the payloads behind damaged bytes.
 
 use crate::payloads::{There, after_payload};
 use crate::side::{SideBytes, WINDOW};
@@ -16,7 +16,7 @@ const SEARCHED: u64 = 67_108_864;
 /// A commit byte is open where it has this value.
 const OPEN: u8 = 1;
 
-/// What is there for a payload that is found behind a damage, of which the numbers aren't looked at.
+/// The bounds for a payload that is found behind damaged bytes: its numbers aren't checked.
 const ANYTHING: There = There {
     texts: u64::MAX,
     products: u64::MAX,
@@ -48,8 +48,8 @@ fn is_open(side: &mut SideBytes, commit_byte: u64) -> bool {
     }
 }
 
-/// How many payloads of the side that counts stand for no record and no product, and how many of those that nobody reaches any
-/// more do.
+/// How many payloads of the side that counts can't be read: payloads without the form of a record or a product, and payloads
+/// that have such a form but can't be reached any more.
 pub fn unread_payloads(side: &mut SideBytes) -> u64 {
     let mut commit_byte = FIRST_COMMIT_BYTE;
     let mut there = There {
@@ -87,7 +87,8 @@ pub fn unread_payloads(side: &mut SideBytes) -> u64 {
     unread.saturating_add(behind)
 }
 
-/// How many payloads in a row with open commit bytes between them have the form of one, from a commit byte on.
+/// Counts the valid payloads in a row from a commit byte on, with open commit bytes between them. Gives their number and the
+/// offset of the commit byte after the last one.
 fn in_a_row(side: &mut SideBytes, from: u64) -> (u64, u64) {
     let mut commit_byte = from;
     let mut count: u64 = 0;

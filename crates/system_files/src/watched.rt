@@ -1,4 +1,4 @@
-//! A wrapper of a disk, which hands on each answer as it is, and looks at the files as the first of them is read.
+//! A wrapper of a disk, which hands on each answer unchanged, and looks at the files at the first read.
 
 ghost use Rattle.std.specs.Prelude.{◌≡◌};
 
@@ -6,8 +6,8 @@ use crate::look::{Unread, unread_records};
 use base::DiskFailed;
 use outside::{Disk, Side};
 
-/// A disk of two files, of which it is seen how many records can't be read. That is looked for at the first read, when the disk
-/// has its locks and nothing was written yet. What fails for the look is passed over.
+/// A disk of two files that also counts the records that can't be read. It counts them after the first read that gives bytes,
+/// when the disk has its locks and nothing was written yet. A failure in counting is ignored.
 #[derive(Drop)]
 pub struct WatchedDisk<D: Disk + Drop> {
     /// The disk itself.
@@ -30,7 +30,7 @@ impl<D: Disk + Drop> WatchedDisk<D> {
         }
     }
 
-    /// How many records couldn't be read as the run began; nothing where none was looked at.
+    /// How many records couldn't be read as the run began; `None` if they were not counted.
     pub fn unread(&self) -> Option<Unread> {
         self.unread
     }

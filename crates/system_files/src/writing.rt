@@ -15,10 +15,13 @@ use std::{fs, io, str};
 /// The bytes that one read takes at most.
 const CHUNK: usize = 65_536;
 
-/// Writes a report. Where nothing has the path, or a regular file that is empty or a report of the same kind, the report is
-/// written beside it and moved into place, so that a reader never sees a part of it; missing folders are made. Any other
-/// regular file is kept, and so are spared files. A pipe that somebody reads is written in place, and so is anything else, such
-/// as a device.
+/// Writes a report. It depends on what is at its path:
+///
+/// - If nothing is there, or an empty file or a report of the same kind, the report is written beside it and moved into place. A
+///   reader never sees a part of it. Missing folders are made.
+/// - Any other regular file is kept, and so are protected files: the call fails.
+/// - A pipe is written in place if somebody reads it. Otherwise the call fails.
+/// - Anything else, such as a device, is written in place.
 pub fn write_report(
     runtime: HostRuntime,
     path: &[u8],
@@ -51,7 +54,7 @@ fn make(
     let folder = folder_of(path);
     name_cause("make its folder", fs::create_dir_all(&runtime, folder))?;
     if let Err(cause) = name_cause("write", protected.test(runtime, path)) {
-        // It is the folder of the spared files, which wasn't there.
+        // This is the folder of the protected files, which did not exist before.
         let _ = fs::remove_dir(&runtime, protected.folder);
         return Err(cause);
     }
@@ -71,7 +74,7 @@ fn replace(runtime: HostRuntime, path: &str, bytes: &[u8]) -> Result<(), Cause> 
     write_beside(runtime, folder_of(target), target, Some(there), bytes)
 }
 
-/// Fails where a regular file isn't empty and isn't a report of the kind that these bytes have.
+/// Fails if a regular file is neither empty nor a report of the kind that these bytes have.
 fn test_kind(runtime: HostRuntime, path: &str, bytes: &[u8]) -> io::Result<()> {
     let found = begin_of(runtime, path)?;
     let is_same = match kind_of(bytes) {
@@ -103,7 +106,7 @@ fn begin_of(runtime: HostRuntime, path: &str) -> io::Result<Vec<u8>> {
     Ok(begin)
 }
 
-/// What the system says of a file that may be written.
+/// The metadata of a file, if it may be written.
 fn writable(runtime: HostRuntime, path: &str) -> io::Result<Metadata> {
     OpenOptions::new()
         .write(true)
@@ -117,8 +120,8 @@ fn write_over(runtime: HostRuntime, path: &str, bytes: &[u8]) -> io::Result<()> 
     file.flush()
 }
 
-/// Writes to a pipe that somebody reads. Without a reader, to open the pipe would wait, so it is opened by one that can also
-/// read, which never waits; and whether another is left when that is closed is asked of the system.
+/// Writes to a pipe, and fails if nobody reads it. To open a pipe for writing alone would wait for a reader. So the pipe is
+/// opened for reading and writing first, which never waits. After that one is closed, the system says whether a reader is left.
 fn write_pipe(runtime: HostRuntime, path: &str, bytes: &[u8]) -> io::Result<()> {
     let both = OpenOptions::new()
         .read(true)
