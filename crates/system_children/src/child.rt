@@ -24,7 +24,7 @@ use system_files::IoFault;
 /// The code of a child that a signal ended.
 const SIGNAL_CODE: u32 = 256;
 
-/// The code of a child that ended well but printed more than is kept, and was to leave no results.
+/// The code of a child that ended with code 0 but printed more than is kept, if its request names no path for results.
 const CUT_CODE: u32 = 257;
 
 /// The code of a child that has no answer to give, as one whose node is lost, or whose licence isn't free: `EX_TEMPFAIL`.
@@ -33,10 +33,10 @@ const NO_ANSWER_CODE: u32 = 75;
 /// The first command word that denotes the program itself.
 const OWN_WORD: &[u8] = b"@self";
 
-/// A child that runs, what it has printed so far, and the path where it leaves its results, if anywhere.
+/// A running child, its output so far, and the path where it leaves its results, if it has such a path.
 #[derive(Drop)]
 pub struct Running {
-    // its output is there until its end was read, or until it was given up
+    // its output is open until it was read to its end or given up
     child: Child<SystemProcess>,
     printed: Printed,
     fault: Option<IoFault>,
@@ -82,7 +82,7 @@ pub fn utf8(text: &Text) -> Result<&str, IoFault>
     }
 }
 
-/// The command of the words. There is none for no word.
+/// The command that the words make. Without a word it fails.
 fn command_of(alloc: Global, own_path: &Option<String>, words: &[Text]) -> Result<Command, IoFault>
     ensures { IfOk result (IsCommandOf (option_map string_bytes own_path.now) words.now) }
 {
@@ -111,7 +111,7 @@ fn program_of<'a>(own_path: &'a Option<String>, word: &'a Text) -> Result<&'a st
 }
 
 impl Running {
-    /// What the system is asked of its output. A number below 0, of one that is at its end, is passed over.
+    /// The poll request for its output. At the end of the output the descriptor is below 0, and the system ignores the request.
     pub fn poll_request(&self) -> pollfd {
         let fd = match &self.child.stdout {
             Some(stdout) => stdout.as_raw_fd(),
@@ -129,8 +129,8 @@ impl Running {
         self.child.stdout.is_none()
     }
 
-    /// One read of its output, which doesn't wait where the system said so. Where there is no memory for what comes, the
-    /// rest is read and not kept.
+    /// Reads its output once. The read doesn't wait if the system reported that it wouldn't. After a failure to get memory, the
+    /// rest of the output is read and not kept.
     pub fn read_on(&mut self, buffer: &mut [u8]) {
         let Some(stdout) = &mut self.child.stdout else {
             return;
@@ -152,13 +152,13 @@ impl Running {
         }
     }
 
-    /// Closes its output, and keeps why.
+    /// Closes its output, and keeps the fault.
     pub fn give_up(&mut self, fault: IoFault) {
         self.child.stdout = None;
         self.fault = Some(fault);
     }
 
-    /// Closes its pipes and waits for it, whatever comes of it. Gives what it had printed.
+    /// Closes its output and waits for it; a failure to wait is ignored. Gives the kept part of its output.
     pub fn abandon(self) -> Vec<u8> {
         let Running {
             mut child,
@@ -178,8 +178,8 @@ pub struct ChildEnd {
     pub signal: Option<i32>,
 }
 
-/// Waits for a child, and takes its results. The child is waited for whatever failed before. One that says that it has no
-/// answer is lost.
+/// Waits for a child, and takes its results. The child is waited for even if something failed before. A child whose code says
+/// that it has no answer is lost.
 pub fn end_child(
     files: &impl Files,
     buffer: &mut [u8],

@@ -14,9 +14,9 @@ pub struct Failure<'a> {
     pub name: &'a [u8],
     /// How long it ran, in milliseconds.
     pub millis: u64,
-    /// The folder of its output; nothing of a file.
+    /// The folder of its output; empty for a file.
     pub folder: &'a [u8],
-    /// What is known of the cause; nothing where its output says it.
+    /// The cause, if it is known; empty if only the output can say it.
     pub cause: &'a [u8],
 }
 
@@ -54,7 +54,8 @@ pub fn long_name_line(alloc: Global, name: &[u8], limit: usize) -> Result<Vec<u8
     Ok(line)
 }
 
-/// What is known of the cause of a failure, by the code and the signal that a child ended with.
+/// The cause of a failure, by the code and the signal that a child ended with. Empty unless it is a signal, or the code 126 or
+/// 127.
 pub fn end_cause(alloc: Global, code: u32, signal: Option<i32>) -> Result<Vec<u8>, NoMemory> {
     if let Some(signal) = signal {
         let text = format!(in alloc; "ended by signal {signal}")?;
@@ -67,7 +68,7 @@ pub fn end_cause(alloc: Global, code: u32, signal: Option<i32>) -> Result<Vec<u8
     Ok(Vec::new(alloc))
 }
 
-/// How many children have ended, of how many, and what became of these.
+/// How many of the due children have ended, and how many passed and failed.
 fn counts_text(alloc: Global, counts: &Counts) -> Result<Vec<u8>, NoMemory> {
     let Counts {
         ended,
@@ -80,7 +81,7 @@ fn counts_text(alloc: Global, counts: &Counts) -> Result<Vec<u8>, NoMemory> {
     Ok(Vec::from_slice(alloc, text.as_bytes())?)
 }
 
-/// The line that says from time to time how far a run is.
+/// The line that reports the progress of a run from time to time.
 pub fn summary_line(alloc: Global, counts: &Counts) -> Result<Vec<u8>, NoMemory> {
     let mut line = Vec::from_slice(alloc, b"vunit_run: ")?;
     line.extend_from_slice(counts_text(alloc, counts)?.as_slice())?;

@@ -1,4 +1,4 @@
-//! What a child has printed so far.
+//! The output of a child so far.
 
 ghost use Rattle.std.specs.Prelude.{◌≡◌, ◌≤◌, ◌++◌, [], ℕ, List, Some, false, length, OnOk};
 ghost use Rattle.base.specs.declared.limits.TheConstants.{ARTEFACT_LIMIT};
@@ -44,7 +44,7 @@ impl Printed {
         Ok(())
     }
 
-    /// What was kept: at most 262,144 bytes, and whether there were more.
+    /// The kept bytes, at most 262,144, and whether there were more.
     pub fn into_prefix(self) -> Prefix
         ensures kept { result.kept.items ≡ self.kept.items }
         ensures more { result.more ≡ self.more }

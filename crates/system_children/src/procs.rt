@@ -92,7 +92,7 @@ impl<R: Processes<Started = SystemProcess> + Files + AllocGlobal + Drop> ChildPr
         self.tickets.as_slice()
     }
 
-    /// Why the first start failed that did, and what it was about: its command, and for a test where its results were to go.
+    /// The cause of the first failed start, and its title: the command, and for a test the path of its results.
     pub fn start_cause(&self) -> Option<(&[u8], Cause)> {
         let cause = self.start_cause?;
         match &self.start_title {
@@ -101,7 +101,7 @@ impl<R: Processes<Started = SystemProcess> + Files + AllocGlobal + Drop> ChildPr
         }
     }
 
-    /// What the first child had printed that was started and took less than its whole input.
+    /// The output of the first child that was started and took less than its whole input.
     pub fn start_said(&self) -> Option<&[u8]> {
         match &self.start_said {
             Some(said) => Some(said.as_slice()),
@@ -109,7 +109,7 @@ impl<R: Processes<Started = SystemProcess> + Files + AllocGlobal + Drop> ChildPr
         }
     }
 
-    /// Why the first child was lost that was.
+    /// The cause of the first loss of a child.
     pub fn child_cause(&self) -> Option<Cause> {
         self.child_cause
     }
@@ -140,7 +140,7 @@ impl<R: Processes<Started = SystemProcess> + Files + AllocGlobal + Drop> ChildPr
         }
     }
 
-    /// Keeps what a child had printed that couldn't be fed, if none was before.
+    /// Keeps the output of a child that couldn't be given its whole input, if it is the first such child.
     fn note_said(&mut self, said: Vec<u8>)
         ensures tickets { self.new.tickets.items ≡ self.old.tickets.items }
         ensures starts { self.new.failed_starts ≡ self.old.failed_starts }
@@ -151,7 +151,7 @@ impl<R: Processes<Started = SystemProcess> + Files + AllocGlobal + Drop> ChildPr
         }
     }
 
-    /// A ticket that no earlier start gave and that doesn't run. There is none once all numbers were given.
+    /// A ticket that no earlier start gave and that no running child has. It fails if no ticket is left.
     fn fresh_ticket(&self) -> Result<u64, IoFault>
         ensures ticket { IfOk result (λ ticket. ¬ (Contains self.now.tickets.items ticket)) }
         ensures later { IfOk result (λ ticket. ticket < u64.MAX) }
@@ -272,9 +272,9 @@ impl<R: Processes<Started = SystemProcess> + Files + AllocGlobal + Drop> ChildPr
             .any(|child| child.is_at_end())
     }
 
-    /// Waits until some output of the children from an index on can be read on, or more can be written to this pipe, and
-    /// reads each output that can. Says whether there was one of these within so many milliseconds; a number below 0 is
-    /// no limit, and no pipe.
+    /// Waits until the output of a child from an index on can be read, or until the pipe `stdin` can be written. Reads each
+    /// output that can be read. Answers false if neither came within `limit` milliseconds, and true after an interruption. A
+    /// `limit` below 0 means no limit, and a `stdin` below 0 means no pipe.
     fn turn(&mut self, from: usize, stdin: RawFd, limit: i32) -> Result<bool, IoFault>
         ensures tickets { self.new.tickets.items ≡ self.old.tickets.items }
         ensures starts { self.new.failed_starts ≡ self.old.failed_starts }
@@ -294,8 +294,8 @@ impl<R: Processes<Started = SystemProcess> + Files + AllocGlobal + Drop> ChildPr
         Err(last_fault("poll"))
     }
 
-    /// The index of the first child, in order of start, whose output is at its end; it waits until there is one. Where
-    /// the system can't be asked the oldest child is given up.
+    /// The index of the first child, in order of start, whose output is at its end; it waits until there is one. If the poll
+    /// fails, the oldest child is given up.
     fn first_at_end(&mut self) -> usize
         requires { 0 < length self.old.tickets.items }
         ensures index { result < length self.new.tickets.items }
@@ -317,13 +317,13 @@ impl<R: Processes<Started = SystemProcess> + Files + AllocGlobal + Drop> ChildPr
     }
 }
 
-/// What the system said of its last call, which failed.
+/// The fault of the last call of the system, which failed.
 fn last_fault(call: &'static str) -> IoFault {
     let error = io::Error::from_raw_os_error(os::errno());
     IoFault::Failed(Cause { call, error })
 }
 
-/// Writes down what the system is to be asked of the children from an index on, and of a pipe that is written.
+/// Collects the poll requests for the outputs of the children from an index on, and for a pipe that is written.
 fn ask(
     asked: &mut Vec<pollfd>,
     children: &[Running],
@@ -342,8 +342,8 @@ fn ask(
     Ok(())
 }
 
-/// Reads from each child from an index on of which the system has something to tell: once, which takes all that a pipe
-/// holds, and once more where nobody can write to the pipe any longer, since then no read waits.
+/// Reads the output of each child from an index on for which the system reported something. One read takes all bytes that a pipe
+/// holds. If nobody can write to the pipe any longer, it reads once more, since then no read waits.
 fn read_ready(children: &mut [Running], from: usize, asked: &[pollfd], buffer: &mut [u8]) {
     for (child, asked) in children.iter_mut().skip(from).zip(asked) {
         if asked.revents != 0 {

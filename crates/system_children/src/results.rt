@@ -34,7 +34,7 @@ pub fn clear_results(
     }
 }
 
-/// Makes a folder and those that it is in. Where something else is in the way, that is moved aside.
+/// Makes a folder, and the folders above it. If something else is in the way, it is moved aside.
 fn make_folder(files: &impl Files, alloc: Global, folder: &str) -> Result<(), IoFault> {
     match fs::create_dir_all(files, folder) {
         Ok(()) => return Ok(()),
@@ -73,7 +73,7 @@ fn clear_way(files: &impl Files, alloc: Global, folder: &str) -> Result<(), IoFa
     Ok(())
 }
 
-/// Whether a folder, or a link to one, has a path.
+/// Whether a path is that of a folder or of a link to one.
 fn is_folder(files: &impl Files, path: &str) -> bool {
     match fs::metadata(files, path) {
         Ok(data) => data.is_dir(),

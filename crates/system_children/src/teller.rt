@@ -1,4 +1,4 @@
-//! What standard error is told of children.
+//! The lines about children on standard error.
 
 use crate::asked::{Asked, AskedTests, asked_of};
 use crate::counts::{Counts, add};
@@ -24,12 +24,12 @@ const FOLDER_LIMIT: usize = 255;
 /// The milliseconds from one line of a terminal to the next.
 const SCREEN_PERIOD: u64 = 1_000;
 
-/// How standard error is told.
+/// How lines are written to standard error.
 #[derive(Clone, Copy)]
 pub struct Manner {
-    /// Whether it is a terminal that can write a line over.
+    /// Whether it is a terminal, on which a line can be written over.
     pub is_screen: bool,
-    /// Whether there are to be no summaries.
+    /// Whether summaries are left out.
     pub is_quiet: bool,
 }
 
@@ -42,7 +42,7 @@ struct Shown {
     began: u64,
 }
 
-/// What is told of children, and what was seen of them. Where there is no memory for a line, there is no line.
+/// Writes lines about children to standard error, and counts children and tests. A line for which there is no memory is left out.
 #[derive(Drop)]
 pub struct Teller<R: Clock + Drop> {
     clock: R,
@@ -77,12 +77,12 @@ impl<R: Clock + Drop> Teller<R> {
         }
     }
 
-    /// What has become of children and tests so far.
+    /// The counts of children and tests so far.
     pub fn counts(&self) -> Counts {
         self.counts
     }
 
-    /// What the first child was asked for that was lost, if one was.
+    /// The title of the first child that was lost, if one was.
     pub fn lost_title(&self) -> Option<&[u8]> {
         match &self.lost {
             Some(title) => Some(title.as_slice()),
@@ -95,18 +95,18 @@ impl<R: Clock + Drop> Teller<R> {
         self.failed.as_slice()
     }
 
-    /// Standard error, for what is said when no child runs any more.
+    /// Standard error, for the lines after the last child has ended.
     pub fn into_messages(self) -> Messages {
         let Teller { messages, .. } = self;
         messages
     }
 
-    /// So many starts more may come.
+    /// Up to `starts` more starts are due.
     pub fn note_due(&mut self, starts: u64) {
         add(&mut self.counts.due, starts);
     }
 
-    /// One start isn't needed.
+    /// One of the due starts isn't needed.
     pub fn note_spared(&mut self) {
         self.counts.due = self.counts.due.saturating_sub(1);
     }
@@ -317,7 +317,7 @@ impl<R: Clock + Drop> Teller<R> {
         Ok(())
     }
 
-    /// Writes the terminal's line over; it is empty where no child runs.
+    /// Writes the terminal's line over; it is empty if no child runs.
     fn show(&mut self, alloc: Global) {
         if !self.manner.is_screen {
             return;
@@ -335,7 +335,7 @@ impl<R: Clock + Drop> Teller<R> {
         }
     }
 
-    /// For how many milliseconds nothing is to be told, unless a child ends. There is none where nothing ever is.
+    /// The milliseconds until the next line is due, if no child ends before. `None` if no line will be due.
     pub fn pause(&self) -> Option<i32> {
         if self.began.is_none() {
             return None;
@@ -351,7 +351,7 @@ impl<R: Clock + Drop> Teller<R> {
         Some(i32::try_from(millis).unwrap_or(i32::MAX))
     }
 
-    /// Tells what is due by now.
+    /// Writes the line that is due by now, if one is.
     pub fn tick(&mut self, alloc: Global) {
         if self.manner.is_screen {
             self.show(alloc);

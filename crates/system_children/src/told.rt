@@ -1,4 +1,4 @@
-//! A wrapper of children, which hands on each answer as it is.
+//! A wrapper of children, which hands on each answer unchanged.
 
 ghost use Rattle.std.specs.Prelude.{◌≡◌};
 
@@ -9,17 +9,17 @@ use outside::{Ended, Procs, StartFault, WaitFault};
 use std::alloc::Global;
 use std::rt::Clock;
 
-/// Children, of which standard error is told. It answers what they answer: what fails for the telling is passed over.
+/// Children, with lines about them on standard error. It hands on their answers. A failure to write a line is ignored.
 #[derive(Drop)]
 pub struct ToldProcs<P: Turns + Drop, R: Clock + Drop> {
     /// The children themselves.
     pub procs: P,
-    /// What is told of them.
+    /// Writes the lines about them.
     pub teller: Teller<R>,
 }
 
 impl<P: Turns + Drop, R: Clock + Drop> ToldProcs<P, R> {
-    /// Waits until a child has ended, and tells meanwhile what is due.
+    /// Writes the lines that become due until a child has ended. It returns at once if no line will be due.
     fn wait_telling(&mut self, alloc: Global)
         ensures running { P.running self.new.procs ≡ P.running self.old.procs }
         ensures journal { P.journal self.new.procs ≡ P.journal self.old.procs }

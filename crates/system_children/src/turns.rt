@@ -6,8 +6,8 @@ use outside::Procs;
 
 /// Children that can be looked at without waiting for an end.
 pub trait Turns: Procs {
-    /// Whether a child has ended, so that it is taken without a wait. It may look for so many milliseconds, and looks no
-    /// longer once a child has printed. Where none can be looked at it says that one has.
+    /// Whether a child has ended, so that its end can be taken without a wait. It may look for `millis` milliseconds, and stops
+    /// looking once a child has printed. It answers true if it can't look at the children.
     fn has_end_within(&mut self, millis: i32) -> bool
         ensures running { Self.running self.new ≡ Self.running self.old }
         ensures journal { Self.journal self.new ≡ Self.journal self.old }
