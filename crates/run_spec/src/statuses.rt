@@ -1,8 +1,8 @@
-//! What became of each file in a build.
+//! The statuses of files in a build.
 
 use base::{Items, Text};
 
-/// What became of a file in a build.
+/// The status of a file in a build.
 #[derive(Drop)]
 pub enum FileStatus {
     /// Its record is current, so it wasn't compiled.
@@ -17,5 +17,5 @@ pub enum FileStatus {
     Left,
 }
 
-/// What became of the files of a build, one status for each, in compile order.
+/// The statuses of the files of a build, one for each file, in compile order.
 pub type FileStatusList = Items<FileStatus>;
