@@ -15,17 +15,17 @@ use order::ReadyFiles;
 use run_spec::{Child, Step, has_ticket, index_of};
 use std::alloc::Global;
 
-/// What a build with many children has to do next. It takes no memory but in `new`, and all calls together take time in
-/// proportion to the files and what they depend on.
+/// The scheduler of a build with many children. Only `new` takes memory. All calls together take time in proportion to the number
+/// of files and dependencies.
 #[derive(Drop)]
 pub struct BuildScheduler {
     /// The files that need no check, or were checked.
     checked: Vec<bool>,
     /// The files that are fresh, or whose child has ended with code 0.
     made: Vec<bool>,
-    /// The other files: each waits for its check until all that it depends on is made.
+    /// The other files: each waits for its check until all its dependencies are made.
     later: ReadyFiles,
-    /// The files that may be started: those that were checked, aren't made, and weren't started.
+    /// The files that may be started: they were checked, aren't made, and weren't started.
     ready: PositionSet,
     /// The running children, in order of their starts.
     children: Vec<Child>,
@@ -98,7 +98,7 @@ impl BuildScheduler {
         })
     }
 
-    /// The position to check, where one is to be checked.
+    /// The position of the file to check next, if any.
     fn due_check(&self) -> Option<u32>
         ensures { result ≡ check_of self.now }
     {
@@ -122,7 +122,7 @@ impl BuildScheduler {
         self.children.len() < self.limit as usize
     }
 
-    /// The position to start, where one may be started.
+    /// The position of the file to start next, if any may be started.
     fn candidate(&self) -> Option<u32>
         ensures { result ≡ candidate_of self.now }
     {
@@ -149,7 +149,7 @@ impl BuildScheduler {
         }
     }
 
-    /// The next step, as the machine's lists say it.
+    /// The next step, by the lists of the machine.
     fn step(&self) -> BuildStep
         ensures { result ≡ next_of self.now }
     {
@@ -159,33 +159,36 @@ impl BuildScheduler {
         }
     }
 
-    /// The next step: a check of the least file that wasn't checked and all of whose dependencies are made; else a start of
-    /// the least file that may be started while a slot is free and the build isn't halted; else a wait where some child
-    /// runs; else the end.
+    /// The next step, by the first of these rules that applies:
+    ///
+    /// - A check of the first unchecked file whose dependencies are all made, unless the machine was stopped.
+    /// - A start of the first file that may be started, if a slot is free and the build is neither halted nor stopped.
+    /// - A wait, if some child runs.
+    /// - The end.
     pub fn next(&self) -> BuildStep
         ensures is { result ≡ next_of self.now }
-        // It is the step of what has happened so far, where it is no check,
+        // A step other than a check is the one that follows from the scheduler state.
         ensures in_step { (workload : Workload) (schedule : SchedulerState) → IsMachineOf self.now workload schedule →
             (step : Step) → result ≡ Run step → step ≡ step_at workload schedule }
-        // a check is of a file that wasn't started and all of whose dependencies are made,
+        // A check is of a file that wasn't started and whose dependencies are all made.
         ensures free { (workload : Workload) (schedule : SchedulerState) → IsMachineOf self.now workload schedule →
             (at : ℕ) → result ≡ Check at → (is_taken schedule at ≡ false) ×
             (list_all (is_made_so_far workload schedule) (workload.deps at) ≡ true) }
-        // and where it is none, what wasn't checked isn't made and wasn't started;
+        // If the step is another and the machine wasn't stopped, the unchecked files are neither made nor started.
         ensures unchecked { (workload : Workload) (schedule : SchedulerState) → IsMachineOf self.now workload schedule →
             is_stopped_in self.now ≡ false → (step : Step) → result ≡ Run step → (at : ℕ) →
             at < files_of self.now → is_checked self.now at ≡ false →
             (is_taken schedule at ≡ false) × (is_made_so_far workload schedule at ≡ false) }
-        // nothing is checked once the machine was stopped;
+        // Nothing is checked once the machine was stopped.
         ensures goes_on { (at : ℕ) → result ≡ Check at → is_stopped_in self.now ≡ false }
-        // whatever was checked has all that it depends on made, and whatever runs was checked;
+        // The dependencies of each checked file are all made.
         ensures ready { (workload : Workload) (schedule : SchedulerState) → IsMachineOf self.now workload schedule → (at : ℕ) →
             at < files_of self.now → is_checked self.now at ≡ true →
             list_all (is_made_so_far workload schedule) (workload.deps at) ≡ true }
-        // a check and a start are of files of the graph,
+        // A check and a start are of files of the graph.
         ensures checks { (at : ℕ) → result ≡ Check at → at < files_of self.now }
         ensures starts { (at : ℕ) → result ≡ Run (Start at) → at < files_of self.now }
-        // a wait comes while some child runs, and the end while none does and nothing is left to do.
+        // A wait comes while some child runs. The end comes when no child runs and nothing is left to do.
         ensures runs { result ≡ Run Wait → 0 < length (tickets_of self.now) }
         ensures idle { result ≡ Run Finished → tickets_of self.now ≡ [] }
         ensures finished { result ≡ Run Finished → (workload : Workload) (schedule : SchedulerState) →
@@ -194,7 +197,7 @@ impl BuildScheduler {
         self.step()
     }
 
-    /// The file that `next` gave was checked: its record is current, so that it is made, or not.
+    /// Records the check of the file that `next` gave. If the file is fresh, its record is current, and the file is made.
     pub fn record_check(&mut self, at: u32, fresh: bool)
         requires { next_of self.old ≡ Check at }
         ensures in_step { (workload : Workload) (schedule : SchedulerState) → IsMachineOf self.old workload schedule →
@@ -222,7 +225,7 @@ impl BuildScheduler {
         has_ticket(self.children.as_slice(), ticket)
     }
 
-    /// The child of a ticket runs no more. Gives the position of its file.
+    /// Removes the child of a ticket. Gives the position of its file.
     fn end_child(&mut self, ticket: u64) -> u32
         requires { Contains (tickets_of self.old) ticket }
         ensures within { result < files_of self.old }
@@ -285,14 +288,14 @@ impl BuildScheduler {
         ensures no_check { (at : ℕ) → next_of self.new ≢ Check at }
         ensures over { (at : ℕ) → next_of self.new ≢ Run (Start at) }
         ensures nearer { to_come self.new ≤ to_come self.old }
-        // It is nearer to the end where some file could be started, as where its start has failed.
+        // If a file could be started, as after a failed start, fewer steps are left.
         ensures ends { (at : ℕ) → next_of self.old ≡ Run (Start at) →
             to_come self.new < to_come self.old }
     {
         self.is_stopped = true;
     }
 
-    /// The child of the file that `next` gave runs, and has this ticket.
+    /// Records the start of the file that `next` gave: its child runs and has this ticket.
     pub fn record_start(&mut self, at: u32, ticket: u64)
         requires { next_of self.old ≡ Run (Start at) }
         ensures lawful { (workload : Workload) (schedule : SchedulerState) → IsMachineOf self.old workload schedule →

@@ -1,6 +1,8 @@
-//! What a build has to do: which files of a graph are fresh or stale over the records of a store, and which are checked
-//! later; and its slots: which file is checked or started next while many children run.
-//! Which run of tests is started next while up to 64 children run.
+//! The plan of a build, and the schedulers of builds and tests.
+//!
+//! - The plan says which files of a graph are fresh or stale by the records of a store, and which are checked later.
+//! - `BuildScheduler` decides which file is checked or started next while up to 64 children run.
+//! - `TestScheduler` decides which run of tests is started next while up to 64 children run.
 #![tactic(auto)]
 
 mod build_scheduler;

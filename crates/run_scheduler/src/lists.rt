@@ -44,7 +44,7 @@ fn is_later_need(need: Need) -> bool
     }
 }
 
-/// The fresh files: those that are made from the start.
+/// The fresh files, which are made from the start.
 pub(crate) fn fresh_files(alloc: Global, needs: &[Need]) -> Result<Vec<bool>, NoMemory>
     ensures count { IfOk result (λ fresh. length fresh.items ≡ length needs.now) }
     ensures fresh { IfOk result (λ fresh. (at : ℕ) → at < length needs.now →

@@ -9,14 +9,14 @@ use base::{FILE_LIMIT, Graph, Items, NoMemory};
 use outside::Records;
 use std::alloc::Global;
 
-/// What is to be done with a file.
+/// The need of a file: what a build does with it.
 #[derive(Clone, Copy, Debug, PartialEq, Eq)]
 pub enum Need {
     /// Nothing: its record is current over files that are all fresh.
     Fresh,
-    /// It is to be compiled, over files that are all fresh.
+    /// A compilation, over files that are all fresh.
     Stale,
-    /// It depends on a file that isn't fresh: whether its record is current shows once all of these are made.
+    /// A later check: some dependency isn't fresh, so its record can be checked only once all dependencies are made.
     Later,
 }
 
@@ -48,7 +48,7 @@ fn are_fresh(needs: &[Need], deps: &[u32]) -> bool
     true
 }
 
-/// What is to be done with one more file.
+/// The need of the file at a position, by the needs of the files before it.
 fn need_of<K: Records>(graph: &Graph, store: &K, needs: &[Need], at: u32) -> Need
     requires at { at < length graph.now }
     requires over { K.is_over store.now graph.now }
@@ -69,14 +69,14 @@ fn need_of<K: Records>(graph: &Graph, store: &K, needs: &[Need], at: u32) -> Nee
     }
 }
 
-/// The plan of a build: a file that depends on one that isn't fresh is checked later, and of the others those are fresh
-/// whose latest record has what would be asked now. The store is asked of no file that is checked later.
+/// The plan of a build. A file with a dependency that isn't fresh is checked later. Any other file is fresh if its latest record
+/// has the request that would be made now, and stale otherwise. The store isn't asked about a file that is checked later.
 pub fn plan<K: Records>(alloc: Global, graph: &Graph, store: &K) -> Result<Needs, NoMemory>
     requires { K.is_over store.now graph.now }
     ensures { IfOk result
         (ArePlanned graph.now (IsRecorded (K.latest_of store.now) graph.now)) }
 {
-    // What a file depends on comes before it.
+    // The dependencies of a file come before it.
     prove!(graph.len() <= FILE_LIMIT as u64);
     let mut needs = Vec::new(alloc);
     for at in 0..graph.len() as u32 {

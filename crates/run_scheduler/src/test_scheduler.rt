@@ -1,4 +1,4 @@
-//! The row: which run is started next.
+//! The scheduler of tests: which run is started next.
 
 ghost use Rattle.std.specs.Prelude.{◌≡◌, ◌<◌, ◌≤◌, length, All};
 ghost use Rattle.std.specs.Vec.{vec_capacity};
@@ -7,10 +7,10 @@ use base::NoMemory;
 use run_spec::{Child, Step, index_of};
 use std::alloc::Global;
 
-/// What runs of tests with many children have to do next. The runs are started in order. It takes no memory but in `new`.
+/// The scheduler of runs of tests with many children. The runs are started in order. Only `new` takes memory.
 #[derive(Drop)]
 pub struct TestScheduler {
-    /// The first run that wasn't started: all before it were.
+    /// The first run that wasn't started. All runs before it were started.
     next: u32,
     count: u32,
     /// The running children, in order of their starts.
@@ -33,7 +33,7 @@ impl TestScheduler {
     ghost use Rattle.run_spec.specs.Steps.{step_at, without_ticket, with_end};
     ghost use Rattle.run_scheduler.specs.Rows.{IsSchedulerWorkload, IsSchedulerOf, next_of, candidate_of, tickets_of, run_count, to_come};
 
-    /// The row of so many runs, with 1 to 64 slots, that stops at the first failed run or not. Nothing has happened yet.
+    /// The scheduler of `count` runs before any event, with 1 to 64 slots. With `fail_fast` it stops at the first failed run.
     #[tactic(auto, unfolding(crate::specs::Rows::run_count, crate::specs::Rows::tickets_of, base::specs::PresentGraph::below))]
     pub fn new(
         alloc: Global,
@@ -58,7 +58,7 @@ impl TestScheduler {
         })
     }
 
-    /// The run to start, where one may be started.
+    /// The run to start next, if any may be started.
     #[tactic(auto, unfolding(crate::specs::Rows::candidate_of))]
     fn candidate(&self) -> Option<u32>
         ensures { result ≡ candidate_of self.now }
@@ -75,7 +75,7 @@ impl TestScheduler {
         Some(self.next)
     }
 
-    /// The next step, as the row's parts say it.
+    /// The next step, by the state of the scheduler.
     #[tactic(auto, unfolding(crate::specs::Rows::next_of))]
     fn step(&self) -> Step
         ensures { result ≡ next_of self.now }
