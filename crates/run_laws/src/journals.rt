@@ -17,20 +17,21 @@ ghost use Rattle.run_spec.specs.CleanBuild.{Made, built_below, is_free, clean_bu
 ghost use Rattle.run_spec.specs.Settled.{Blocked, settle, settled_by, artefact_settled, request_unless};
 ghost use Rattle.run_spec.specs.Statuses.{statuses_of, steady_statuses, is_refused, NoRefusalHalts};
 
-/// What lawful journals of builds ask for and make, by what the settled build does; and where what is recorded is what a
-/// clean build makes, by that.
+/// The requests, artefacts and commits of lawful journals, compared with those of the settled build. If the current records are
+/// clean (`RecordsClean`), the settled build is compared with the clean build.
 pub fn laws_of_journals()
-    // All events of a lawful journal are compilers', none is a test's,
+    // All events of a lawful journal are of compilers.
     ensures compiles { (setting : Work) (events : List Event) →
         Lawful setting events → compile_part events ≡ events }
+    // No event of a lawful journal is of a test.
     ensures no_tests { (setting : Work) (events : List Event) →
         Lawful setting events → test_part events ≡ [] }
-    // (where none is a test's, all are compilers')
+    // If no event of a journal is of a test, all are of compilers.
     ensures parts { (events : List Event) → test_part events ≡ [] → compile_part events ≡ events }
-    // and there is none where the graph has no file.
+    // Over a graph without files, a lawful journal is empty.
     ensures no_file { (setting : Work) (events : List Event) →
         setting.graph ≡ [] → Lawful setting events → events ≡ [] }
-    // Nor is there one where each file has an artefact before any child has ended.
+    // If each file has an artefact before any child has ended, a lawful journal is empty.
     ensures fresh { (setting : Work) →
         ((position : ℕ) → position < length setting.graph →
         artefact_so_far setting [] position ≡ None → ⊥) →
@@ -38,7 +39,7 @@ pub fn laws_of_journals()
     // Each prefix of a lawful journal is lawful.
     ensures prefix { (setting : Work) (before rest : List Event) →
         Lawful setting (before ++ rest) → Lawful setting before }
-    // Each start asks for its file what the settled build asks for it,
+    // Each start has the request that the settled build makes for its file.
     ensures asked { (answer : Request → Exit) (setting : Work) → IsGraph setting.graph →
         (before rest : List Event) (ticket : ℕ) (request : Request) →
         Lawful setting (before ++ Started ticket request ∷ rest) →
@@ -46,28 +47,28 @@ pub fn laws_of_journals()
         (position : ℕ)
         × (next_position setting (progress_of setting before) ≡ Some position)
         × (request_unless answer setting.graph setting.current position ≡ Some request) }
-    // so that it asks for each file that was started,
+    // The settled build makes a request for each file that was started.
     ensures stale { (answer : Request → Exit) (setting : Work) → IsGraph setting.graph →
         (events : List Event) → Lawful setting events → Answered answer events →
         (position : ℕ) → Contains (progress_of setting events).taken position → (request : Request)
         × (request_unless answer setting.graph setting.current position ≡ Some request) }
-    // and no file is started twice.
+    // No file is started twice.
     ensures once { (answer : Request → Exit) (setting : Work)
         (events : List Event) → Lawful setting events → Answered answer events →
         AllPairs (λ position other. position ≢ other) (progress_of setting events).taken }
-    // Whatever a build has by now of a file is what the settled build makes of it.
+    // An artefact that a file has after these events is its artefact in the settled build.
     ensures made { (answer : Request → Exit) (setting : Work) → IsGraph setting.graph →
         (events : List Event) → Lawful setting events → Answered answer events →
         (position : ℕ) (artefact : List ℕ) →
         artefact_after setting events position ≡ Some artefact →
         artefact_settled answer setting.graph setting.current position ≡ Some artefact }
-    // Where what is recorded is what a clean build makes, each request is a clean build's,
+    // If the current records are clean, each request of the settled build is that of the clean build.
     ensures clean_asked { (answer : Request → Exit) (setting : Work) → IsGraph setting.graph →
         RecordsClean answer setting.graph setting.current → (position : ℕ) (request : Request) →
         request_unless answer setting.graph setting.current position ≡ Some request →
         clean_request answer setting.graph position ≡ Some request }
-    // and there is one for exactly the files that a clean build doesn't block and that have no current record over what
-    // it makes below them;
+    // The settled build makes it for exactly the files that the clean build doesn't block and that lack a current record over the
+    // dependencies that the clean build makes.
     ensures clean_exactly { (answer : Request → Exit) (setting : Work) → IsGraph setting.graph →
         RecordsClean answer setting.graph setting.current → (position : ℕ) (entry : Entry) →
         slice_get setting.graph position ≡ Some entry →
@@ -75,7 +76,7 @@ pub fn laws_of_journals()
         request_unless answer setting.graph setting.current position
         ≡ (if is_some (setting.current position below) then None
         else clean_request answer setting.graph position) }
-    // what becomes of a file follows from what a clean build makes below it,
+    // If the current records are clean, the result of a file in the settled build follows from its dependencies in the clean build.
     ensures clean_settled { (answer : Request → Exit) (setting : Work) → IsGraph setting.graph →
         RecordsClean answer setting.graph setting.current → (position : ℕ) (entry : Entry) →
         slice_get setting.graph position ≡ Some entry →
@@ -84,7 +85,7 @@ pub fn laws_of_journals()
         settle answer setting.graph setting.current position
         ≡ (if is_free clean entry then settled_by (setting.current position below)
         (Some (answer (compile_request entry below))) else Blocked) }
-    // what the settled build makes of a file is what a clean build makes of it,
+    // If the current records are clean, an artefact of the settled build is that of the clean build.
     ensures clean_made { (answer : Request → Exit) (setting : Work) → IsGraph setting.graph →
         RecordsClean answer setting.graph setting.current →
         (position : ℕ) (entry : Entry) (artefact : List ℕ) →
@@ -92,33 +93,33 @@ pub fn laws_of_journals()
         artefact_settled answer setting.graph setting.current position ≡ Some artefact →
         slice_get (clean_build answer setting.graph) position
         ≡ Some (Made (record { name = entry.name; artefact = artefact })) }
-    // and what is committed are true records, whatever is recorded.
+    // All commits are true records, whether or not the current records are clean.
     ensures commits { (answer : Request → Exit) (setting : Work) → IsGraph setting.graph →
         (events : List Event) → Lawful setting events → Answered answer events →
         All (IsTrueRecord answer) (commits setting events) }
 {}
 
-/// What a build that ended by itself started, made and marked, where no refusal halted it: whatever the order of ends,
-/// what the settled build says.
+/// The starts, artefacts and statuses of a build that ended by itself and that no refusal halted. They are those of the settled
+/// build, in whatever order the children ended.
 pub fn laws_of_whole_builds()
-    // The started files are those that the settled build asks for,
+    // The started files are exactly the files for which the settled build makes a request.
     ensures started { (answer : Request → Exit) (setting : Work) → IsGraph setting.graph →
         (events : List Event) → IsWhole setting events → Answered answer events →
         NoRefusalHalts setting events → (position : ℕ) →
         Contains (progress_of setting events).taken position ↔ ((request : Request)
         × (request_unless answer setting.graph setting.current position ≡ Some request)) }
-    // the files that are made are those that the settled build makes, with their artefacts,
+    // The build and the settled build make the same files, with the same artefacts.
     ensures built { (answer : Request → Exit) (setting : Work) → IsGraph setting.graph →
         (events : List Event) → IsWhole setting events → Answered answer events →
         NoRefusalHalts setting events → (position : ℕ) →
         artefact_after setting events position
         ≡ artefact_settled answer setting.graph setting.current position }
-    // and its statuses are those that the settled build says.
+    // The statuses are those of the settled build.
     ensures steady { (answer : Request → Exit) (setting : Work) → IsGraph setting.graph →
         (events : List Event) → IsWhole setting events → Answered answer events →
         NoRefusalHalts setting events →
         statuses_of setting events ≡ steady_statuses answer setting.graph setting.current }
-    // Where no file was refused, all files are made.
+    // If no file was refused, all files are made.
     ensures all_made { (answer : Request → Exit) (setting : Work) → IsGraph setting.graph →
         (events : List Event) → IsWhole setting events → Answered answer events →
         list_any is_refused (statuses_of setting events) ≡ false →

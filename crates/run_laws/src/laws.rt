@@ -14,22 +14,22 @@ ghost use Rattle.run_spec.specs.CleanBuild.{clean_build, RecordsClean};
 ghost use Rattle.run_spec.specs.Faithful.{IsTrueRecord};
 ghost use Rattle.run_spec.specs.Recorded.{current_by_request};
 
-/// What a clean build gives of a closed part of a graph, and how it bears on the records of compiled files.
+/// The results of a clean build for a closed part of a graph, and how they relate to the records of compiled files.
 pub fn laws_of_clean_builds()
-    // A clean build of a closed part, as of the view of a file, gives what a clean build of the whole graph gives of the
+    // A clean build of a closed part, such as the view of a file, gives the results of a clean build of the whole graph for the
     // files in the part.
     ensures part { (answer : Request → Exit) (graph : List Entry) → IsGraph graph →
         (positions : List ℕ) → IsPart graph positions →
         clean_build answer (part graph positions)
         ≡ filter_map (slice_get (clean_build answer graph)) positions }
-    // Where the latest records are true, what is recorded of each file is what a clean build makes of it.
+    // If the latest records are true, the current records are clean: each has the artefact that a clean build makes.
     ensures clean { (answer : Request → Exit) (latest_of : FileName → Option Record)
         (graph : List Entry) →
         IsGraph graph →
         ((name : FileName) (kept : Record) → latest_of name ≡ Some kept →
         IsTrueRecord answer kept) →
         RecordsClean answer graph (current_by_request latest_of graph) }
-    // The latest record of a name stays where the latest of each name alone are kept.
+    // A name keeps its latest record if only the latest record of each name is kept.
     ensures latest { (name : FileName) (records : List Record) →
         latest name (latest_alone records) ≡ latest name records }
 {}

@@ -1,5 +1,8 @@
-//! The laws of runs that build: what a clean build gives, at each position, of a closed part of a graph, and of records that
-//! it made; what the journals of builds have of it; and what holds of a run from any disk, and of what a stop inside it leaves.
+//! The laws of runs that build.
+//!
+//! - Clean builds: their results for a closed part of a graph, and the records of these results.
+//! - Journals of builds: their requests, artefacts, commits and statuses, compared with settled and clean builds.
+//! - Runs: how long a record stays acknowledged from any disk, and what a stop leaves.
 #![tactic(auto)]
 
 mod journals;

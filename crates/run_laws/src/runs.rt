@@ -18,8 +18,8 @@ ghost use Rattle.run_laws.specs.Spares.{IsAcknowledged, HasFile, HasFileAsked};
 
 /// What holds within one run, whatever disk it finds.
 pub fn laws_of_runs()
-    // A record of what is asked of its file stays acknowledged from the moment on at which it is; in a run that builds all
-    // anew, one that reads didn't give before it.
+    // A record with the request that is due for its file stays acknowledged from any moment on at which it is acknowledged. In a run
+    // that rebuilds everything, this holds of a record that reads didn't give as the latest of its name before the run.
     ensures lasts { (world : World) (order : Order) (run : ProgramRun) (first : DiskState)
         (name : FileName) (kept : Record) → IsReadable first →
         RunStep world (Some order) run first →
@@ -29,7 +29,7 @@ pub fn laws_of_runs()
         (moment : DiskState) (is : IsMoment moment first run.later) →
         IsAcknowledged world name kept moment →
         AllByRecursion (IsAcknowledged world name kept) (moment ∷ is.after) }
-    // In any run it does so from the first commit on.
+    // In any run, such a record stays acknowledged from any moment on that comes after the opening of the store.
     ensures lasts_anew { (world : World) (order : Order) (run : ProgramRun) (first : DiskState)
         (name : FileName) (kept : Record) (acknowledged : ℕ) (broken : Bool)
         (committing : IsCommitting world.records_of order.clean acknowledged broken
@@ -40,7 +40,7 @@ pub fn laws_of_runs()
         (is : IsMoment moment (last_state first committing.opening) committing.committing) →
         IsAcknowledged world name kept moment →
         AllByRecursion (IsAcknowledged world name kept) (moment ∷ is.after) }
-    // Where each file has an acknowledged record of what is asked over the artefacts of all, and not all is built anew, nothing is
+    // If each file has an acknowledged record over given artefacts of all files, and the run doesn't rebuild everything, nothing is
     // started.
     ensures fresh { (world : World) (order : Order) (run : ProgramRun) (first : DiskState)
         (artefact_of : ℕ → List ℕ) → IsReadable first → RunStep world (Some order) run first →
@@ -49,14 +49,14 @@ pub fn laws_of_runs()
         IsAcknowledged world entry.name (record_at order.graph position
         (built_at order.graph (λ p. Some (artefact_of p)) (deps_at order.graph position))
         (artefact_of position)) first) → run.events ≡ [] }
-    // A commit is acknowledged at the end of the run where fewer come before it than are acknowledged.
+    // A commit is acknowledged at the end of the run if fewer commits come before it than the run acknowledges.
     ensures acknowledged { (world : World) (order : Order) (run : ProgramRun) (first : DiskState)
         (build : IsBuildRun world order run first) (name : FileName) (only : Record)
         (before after : List Record) → HasFile order name → only.asked.name ≡ name →
         commits (work_over world.records_of order first) run.events ≡ before ++ only ∷ after →
         length before < build.acknowledged →
         IsAcknowledged world name only (last_state first run.later) }
-    // So is each commit of a child that ended before the last start.
+    // Each commit of a child that ended before the last start is acknowledged too.
     ensures before_starts { (world : World) (order : Order) (run : ProgramRun)
         (first : DiskState) → IsBuildRun world order run first →
         (name : FileName) (only : Record) → HasFile order name → only.asked.name ≡ name →
@@ -69,9 +69,9 @@ pub fn laws_of_runs()
 
 /// What a stop can leave.
 pub fn laws_of_stops()
-    // A kill of the program leaves the disk as it is at that moment,
+    // A kill of the program leaves the disk of that moment.
     ensures kill { (moment : DiskState) → IsReadable moment → IsLeft moment moment }
-    // and a loss of power leaves one of the images of the moment.
+    // A loss of power leaves one of the images of the moment.
     ensures power { (moment : DiskState) (image : Image) → IsImage moment image →
         IsLeft moment (settled_disk image) }
 {}
