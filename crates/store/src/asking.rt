@@ -19,7 +19,7 @@ use store_codec::{
 use store_journal::Ready;
 use store_table::{HeldPayloads, LocatedTexts, TextNumbers, find_text};
 
-/// The numbers of a text and of an artefact, where they have one, and those that they will have.
+/// The numbers of the text of a file and of an artefact that are in the table already, and the numbers that both will have.
 #[derive(Clone, Copy)]
 pub struct TextRefs {
     pub source: Option<usize>,

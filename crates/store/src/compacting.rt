@@ -192,7 +192,8 @@ fn hold<'g>(held: &mut LoadedStore<'g>, made: LoadedStore<'g>)
     discard(mem::replace(held, made));
 }
 
-/// Whether so many of some bytes are live that they are to be compacted.
+/// Whether `len` bytes, with `live` live ones, need compaction: the dead bytes are more than `DEAD_LIMIT` and more than the live
+/// ones.
 fn asks(len: u64, live: u64) -> bool
     ensures { IsTrue result ↔ HasManyDead len live }
 {
@@ -203,5 +204,5 @@ fn asks(len: u64, live: u64) -> bool
     live < dead
 }
 
-/// Lets go of what is held.
+/// Drops a loaded store.
 fn discard(_held: LoadedStore<'_>) {}

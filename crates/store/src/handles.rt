@@ -6,8 +6,8 @@ use base::NoMemory;
 use std::alloc::Global;
 use std::marker::Model;
 
-/// The number of a record, that of the product of its file and its artefact, and whether the record surely has the text of the
-/// file; where it doesn't say so, the texts are to be compared.
+/// The number of a record, and the number of the product of its file and artefact. If `has_text` is true, the record has the text
+/// of the file; otherwise the texts must be compared.
 #[derive(Clone, Copy)]
 pub struct RecordHandle {
     pub row: usize,

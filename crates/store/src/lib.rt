@@ -1,9 +1,10 @@
-//! What compaction keeps of a store of requests: the latest records, and the products and texts that they need, by numbers.
-//! Payloads of a store of requests, with what they stand for: which records are the latest, and which files of a graph have one
-//! of what would be asked now.
-//! Takes over the records of a store of the earlier form, which are records of the views of nodes, as records of requests.
-//! Records of requests on a disk: what a compiler was asked and what it gave, each text and each product once, as payloads of a
-//! journal.
+//! The store of requests on a disk, as payloads of a journal. A record has the request to a compiler and the artefact that the
+//! compiler gave. Each text and each product is stored once.
+//!
+//! - The loaded payloads say which records are the latest, and which files of a graph have a current record.
+//! - Compaction keeps the latest records, and the products and texts that they need, by numbers.
+//! - The takeover turns the records of a store of the earlier form, which are records of the views of nodes, into records of
+//!   requests.
 #![tactic(auto)]
 
 mod additions;

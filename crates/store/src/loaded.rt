@@ -263,7 +263,7 @@ impl<'g> LoadedStore<'g> {
         self.table.reserve()
     }
 
-    /// The number of a name, which is added where it has none. The payloads are unchanged.
+    /// The number of a name. A name without a number is added. The payloads are unchanged.
     fn number_of_name(&mut self, name: FileName) -> Result<usize, NoMemory>
         ensures payloads { self.new.payloads ≡ self.old.payloads }
         ensures named { IfOk result (IsNameNumber self.new.names name) }

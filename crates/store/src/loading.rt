@@ -1,4 +1,4 @@
-//! Taking up the payloads of a store as they are read.
+//! The visitor that takes up the payloads of a store while its journal is read.
 
 ghost use Rattle.std.specs.Prelude.{◌≡◌, ◌<◌, ◌^◌, ◌++◌, ◌∷◌, [], length, map, IfOk, OnOk};
 

@@ -1,4 +1,4 @@
-//! A plan of what is carried over, by numbers.
+//! The plan of a compaction, by numbers.
 
 ghost use Rattle.std.specs.Prelude.{◌≡◌, ◌<◌, ◌≤◌, ◌+◌, ◌-◌, ◌^◌, ◌++◌, ◌∷◌, [], min, length, All, Contains, IfOk, OnOk};
 ghost use Rattle.store.specs.Plans.{HasTakenProduct, HasTakenRequest, TookText};
@@ -8,15 +8,14 @@ use base_collections::NumberSet;
 use std::alloc::Global;
 use store_table::{LocatedTable, RecordRow};
 
-/// A product that is added alone: its number where it is, and the new number of its artefact, if that has one already.
+/// A product that is added alone: its old number, and the new number of its artefact, if that has one already.
 #[derive(Clone, Copy)]
 pub struct ProductStep {
     pub product: usize,
     pub text: Option<usize>,
 }
 
-/// A record that is added: its number where it is, and the new numbers of its text and its artefact, if they have one
-/// already.
+/// A record that is added: its old number, and the new numbers of its text and its artefact, if they have one already.
 #[derive(Clone, Copy)]
 pub struct RequestStep {
     pub row: usize,
@@ -24,15 +23,15 @@ pub struct RequestStep {
     pub artefact: Option<usize>,
 }
 
-/// One payload: a product alone, or a record. Products and records have the numbers that they have where they are.
+/// One payload: a product alone, or a record. Products and records have their old numbers.
 #[derive(Clone, Copy)]
 pub enum CompactionStep {
     OfProduct(ProductStep),
     OfRequest(RequestStep),
 }
 
-/// The products and texts that are carried over, in the order of their new numbers, the payloads that add them, and how many
-/// bytes these take on a side, or the most that can be counted.
+/// The products and texts that compaction keeps, in the order of their new numbers, and the payloads that add them. `len` is the
+/// number of bytes that the payloads take on a side, at most 2^64 - 1.
 #[derive(Drop)]
 pub struct CompactionPlan {
     pub products: NumberSet,
@@ -42,7 +41,7 @@ pub struct CompactionPlan {
 }
 
 impl CompactionPlan {
-    /// A plan of nothing, for so many products and texts.
+    /// An empty plan, with room for product numbers below `products` and text numbers below `texts`.
     pub fn new(alloc: Global, products: usize, texts: usize) -> Result<CompactionPlan, NoMemory>
         ensures products { IfOk result (λ plan. products ≤ plan.products.size) }
         ensures texts { IfOk result (λ plan. texts ≤ plan.texts.size) }
@@ -59,7 +58,7 @@ impl CompactionPlan {
         })
     }
 
-    /// Adds a payload that takes so many bytes.
+    /// Adds a payload that takes `len` bytes.
     pub fn add(&mut self, step: CompactionStep, len: u64) -> Result<(), NoMemory>
         ensures steps { OnOk result (self.new.steps.items ≡ self.old.steps.items ++ step ∷ []) }
         ensures len { OnOk result (self.new.len ≡ min (2 ^ 64 - 1) (self.old.len + len)) }
@@ -82,7 +81,7 @@ fn room_for(alloc: Global, size: usize) -> Result<NumberSet, NoMemory>
     Ok(set)
 }
 
-/// Adds a number that isn't there.
+/// Adds a number that isn't in the set.
 fn add_new(set: &mut NumberSet, number: usize) -> Result<(), NoMemory>
     requires size { number < set.old.size }
     requires new { ¬ Contains set.old.numbers number }
@@ -95,7 +94,7 @@ fn add_new(set: &mut NumberSet, number: usize) -> Result<(), NoMemory>
     Ok(())
 }
 
-/// The new number of a text, which is added where it has none.
+/// The new number of a text that the set has already. Any other text is added, and `None` is returned.
 fn take_text(texts: &mut NumberSet, text: usize) -> Result<Option<usize>, NoMemory>
     requires { text < texts.old.size }
     ensures is { IfOk result (λ known. TookText text known texts.old texts.new) }
@@ -108,7 +107,7 @@ fn take_text(texts: &mut NumberSet, text: usize) -> Result<Option<usize>, NoMemo
     Ok(None)
 }
 
-/// Adds a product that isn't there yet, and its artefact where that is new.
+/// Adds a product that isn't in the plan yet, and its artefact if that is new.
 pub fn take_product(
     plan: &mut CompactionPlan,
     table: &LocatedTable,
@@ -125,7 +124,7 @@ pub fn take_product(
     Ok(ProductStep { product, text })
 }
 
-/// Adds the text and the artefact of a record where they are new, and its product likewise.
+/// Adds the text, the artefact and the product of a record, each if it is new.
 pub fn take_request(
     plan: &mut CompactionPlan,
     table: &LocatedTable,

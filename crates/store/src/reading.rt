@@ -1,4 +1,4 @@
-//! The records of a disk as they are, whichever form it has.
+//! Opens the records of a disk of either form, without compaction.
 
 ghost use Rattle.std.specs.Prelude.{◌≡◌, ◌↔◌, [], false, IfOk, OnOk};
 ghost use Rattle.outside.specs.Counts.{StoreCounts};
@@ -30,8 +30,8 @@ pub struct Parts<'g> {
     pub held: LoadedStore<'g>,
 }
 
-/// Opens the records of a disk as they are. Where a store of the earlier form counts, its records are first put in a side of
-/// their own, beside it. A file of a record's name, words and text lends that text.
+/// Opens the records of a disk without compaction. If a store of the earlier form counts, its records are first written to a side
+/// of their own beside it. A file with the name, words and text of a record lends that text.
 pub fn read<'g, D: Disk>(
     alloc: Global,
     disk: &mut D,
@@ -55,7 +55,7 @@ pub fn read<'g, D: Disk>(
         OnOk result
         (requests_in (reads_of (D.moments disk.new).now)
         ≡ requests_in (reads_of (D.moments disk.old).now)) }
-    // What is read asks for compaction exactly where the disk did.
+    // The loaded store needs compaction exactly if the disk did at entry.
     ensures asks { D.tells →
         IfOk result
         (λ parts.

@@ -40,7 +40,7 @@ fn part_size(part: TextPart<'_>) -> u64
     }
 }
 
-/// The bytes of the payload of a product, behind its gate and its length.
+/// The number of bytes that the payload of a product takes with its commit byte and its length.
 fn product_size(parts: ProductParts<'_>) -> u64
     requires { HasProductSizes parts }
     ensures { result
@@ -49,7 +49,7 @@ fn product_size(parts: ProductParts<'_>) -> u64
     6 + name_size(parts.name) + part_size(parts.artefact)
 }
 
-/// The bytes of the payload of a record over so many products, behind its gate and its length.
+/// The number of bytes that the payload of a record over `deps` products takes with its commit byte and its length.
 fn request_size(parts: RequestParts<'_>, deps: usize) -> u64
     requires sizes { HasRequestSizes parts }
     requires few { deps < FILE_LIMIT }
@@ -66,7 +66,7 @@ fn request_size(parts: RequestParts<'_>, deps: usize) -> u64
     10 + name + parts.words.len() as u64 + texts + 8 * deps as u64
 }
 
-/// The bytes of the payload of a step, behind its gate and its length.
+/// The number of bytes that the payload of a step takes with its commit byte and its length.
 pub fn step_size(held: &HeldPayloads<'_>, table: &LocatedTable, step: CompactionStep) -> u64
     requires table { IsTableToCompact held.now.segments table.now }
     requires step { (numbers : List ℕ) ×

@@ -23,10 +23,10 @@ use std::alloc::Global;
 use std::marker::Model;
 use store_journal::{Journal, Payloads, Ready};
 
-/// Records of requests on a disk: what a compiler was asked, as its words, the file with its text and the files that it
-/// depends on as they were built, and the artefact that it gave. The last record of a name counts. A store is opened over a graph,
-/// whose files it looks up once. After `DiskFailed` it is broken until it is opened again. Contracts see what its journal knows
-/// of the disk, what it holds, and which of its records are the latest of the graph's files.
+/// The store of requests on a disk. A record has the compiler's words, the file with its text, the built files that it depends on,
+/// and the artefact that the compiler gave. The last record of a name counts. A store is opened over a graph, whose files it
+/// looks up once. After `DiskFailed` it is broken until it is opened again. Contracts see what its journal knows of the disk,
+/// the loaded store, and the handles of the latest records of the graph's files.
 #[derive(Drop)]
 pub struct RequestStore<'g> {
     journal: Journal,
@@ -86,11 +86,11 @@ fn looked_up<'g>(
 }
 
 impl<'g> RequestStore<'g> {
-    /// Opens the records of a disk, whatever the disk holds; where it has a store of the earlier form alone, those of its records
-    /// are taken over that stand as requests. It first syncs both sides. It compacts them where dead bytes are
-    /// more than live ones and more than 1,048,576, and there is a next generation. A file of the graph that has the name, the
-    /// words and the text of a record lends that text, which isn't held once more, until the store is compacted. Last it looks up
-    /// the files of the graph; a borrowed text isn't compared with itself.
+    /// Opens the records of a disk, whatever the disk holds. It first syncs both sides. From a disk with a store of the earlier form
+    /// alone, it takes over the records that can be read as requests. It compacts the records if the dead bytes are more than the
+    /// live ones and more than 1,048,576, and there is a next generation. A file of the graph with the name, the words and the text of
+    /// a record lends that text, so the store holds no copy until it is compacted. Last it looks up the files of the graph; a
+    /// borrowed text isn't compared with itself.
     pub fn open<D: Disk>(
         alloc: Global,
         disk: &mut D,
@@ -105,23 +105,23 @@ impl<'g> RequestStore<'g> {
             let before = requests_in (reads_of (D.moments disk.old).now) in
             OpensWith (D.moments disk.old) (D.moments disk.new)
             (λ image. AreAllOrLatest before (requests_in image)) }
-        // Where a side counts, its last gate is closed, and what it holds asks for no compaction, nothing is written.
+        // If a side counts, its last commit byte is closed, and it needs no compaction, nothing is written.
         ensures rests { D.tells →
             IsResting (reads_of (D.moments disk.old).now) →
             Rests result (D.moments disk.old) (D.moments disk.new) }
-        // So it is of what opening leaves: a second one writes nothing.
+        // A successful opening leaves the disk in this state, so a second one writes nothing.
         ensures settled { D.tells → OnOk result (IsResting (reads_of (D.moments disk.new).now)) }
         ensures records { D.tells →
             let before = requests_in (reads_of (D.moments disk.old).now) in
             OnOk result
             (AreAllOrLatest before (requests_in (reads_of (D.moments disk.new).now))) }
-        // Where it asks for compaction, the latest records alone are left, and no dead byte,
+        // If the image at entry needs compaction, only the latest records are left, without dead bytes.
         ensures compacts { D.tells →
             ImageAsksCompaction (reads_of (D.moments disk.old).now) →
             OnOk result
             (HasCompactedOver (requests_in (reads_of (D.moments disk.old).now))
             (reads_of (D.moments disk.new).now)) }
-        // and where it doesn't, all payloads are.
+        // Otherwise all payloads are left.
         ensures keeps { D.tells →
             ¬ ImageAsksCompaction (reads_of (D.moments disk.old).now) →
             OnOk result

@@ -62,7 +62,7 @@ fn add_step(
     Ok(())
 }
 
-/// Plans a product alone, where it isn't there yet.
+/// Plans a product alone, unless the plan has it already.
 fn plan_product(
     plan: &mut CompactionPlan,
     held: &HeldPayloads<'_>,

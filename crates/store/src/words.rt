@@ -1,4 +1,4 @@
-//! The words of a compiler as they are spelled.
+//! The bytes that spell the words of a compiler.
 
 ghost use Rattle.std.specs.Prelude.{◌≡◌, ◌≤◌, length};
 ghost use Rattle.base.specs.Names.{FitsCommand};
