@@ -23,8 +23,8 @@ use outside::{Disk, OpenRecords, Procs, Records, StoreFault};
 use run_spec::{FileStatusList, RunFault};
 use std::alloc::Global;
 
-/// How a graph is built: with so many children at once, going on after a refusal or not, and over the records that are there
-/// or over none.
+/// How a graph is built: `slots` is the greatest number of children at once. With `keep_going` the build goes on after a refusal.
+/// With `clean` it begins with an empty store.
 #[derive(Clone, Copy, Debug, PartialEq, Eq)]
 pub struct BuildOptions {
     pub slots: u32,
@@ -32,14 +32,14 @@ pub struct BuildOptions {
     pub clean: bool,
 }
 
-/// What became of the files of a graph that was built, one status for each file, in order; and the store that has their records.
+/// The result of a build: one status for each file of the graph, in order, and the store that has the records.
 #[derive(Drop)]
 pub struct Kept<K> {
     pub statuses: FileStatusList,
     pub store: K,
 }
 
-/// Opens the store of a disk for the build of a graph: with what it holds, or empty.
+/// Opens the store of a disk for the build of a graph: with its records, or, if `clean` is true, empty.
 fn open_store<'g, K: Records + OpenRecords<'g>, D: Disk>(
     alloc: Global,
     disk: &mut D,
@@ -77,11 +77,11 @@ pub fn build_kept<'g, K: Records + OpenRecords<'g> + Drop, D: Disk, P: Procs>(
     ensures running { P.running procs.new ≡ [] }
     ensures same { P.answer procs.new ≡ P.answer procs.old }
     ensures count { IfOk result (λ kept. length kept.statuses ≡ length graph.now) }
-    // Of each file that is made the store has a record of what would be asked for it now,
+    // For each file that is made, the store has a current record.
     ensures recorded { IfOk result (λ kept. (position : ℕ) (status : FileStatus) →
         slice_get kept.statuses position ≡ Some status → is_made status ≡ true →
         IsRecorded (K.latest_of kept.store) graph.now position) }
-    // and where all are, what it lends of them are the files that were built.
+    // If all files are made, the files that the store lends are the built files.
     ensures borrowed { D.tells → P.tells → IfOk result (λ kept.
         list_all is_made kept.statuses ≡ true →
         filter_map (borrowed_at (K.latest_of kept.store) graph.now) (below (length graph.now))
@@ -97,7 +97,7 @@ pub fn build_kept<'g, K: Records + OpenRecords<'g> + Drop, D: Disk, P: Procs>(
         (has_risen (D.failed_disk_calls disk.old) (D.failed_disk_calls disk.new))
         (D.moments disk.old) (D.moments disk.new)
         (since (P.journal procs.old) (P.journal procs.new)) }
-    // Where it commits nothing, over a disk that opening leaves as it is, nothing is written.
+    // Unless `clean` is true, a build without commits writes nothing if the disk is at rest when it begins.
     ensures rests { D.tells → P.tells →
         RestsOver K.records_of K.is_resting (order_by options graph.now) result
         (D.moments disk.old) (D.moments disk.new)
@@ -151,7 +151,7 @@ pub fn build_over<'g, K: Records + OpenRecords<'g> + Drop, D: Disk, P: Procs>(
         (has_risen (D.failed_disk_calls disk.old) (D.failed_disk_calls disk.new))
         (D.moments disk.old) (D.moments disk.new)
         (since (P.journal procs.old) (P.journal procs.new)) }
-    // Where it commits nothing, over a disk that opening leaves as it is, nothing is written.
+    // Unless `clean` is true, a build without commits writes nothing if the disk is at rest when it begins.
     ensures rests { D.tells → P.tells →
         RestsOver K.records_of K.is_resting (order_by options graph.now) result
         (D.moments disk.old) (D.moments disk.new)

@@ -67,12 +67,13 @@ fn begin<K: Records>(
     })
 }
 
-/// Builds the graph over a store of records, which was opened over it, and gives one status for
-/// each file: one whose record is current over what it depends on is fresh, and the others are compiled, each once all
-/// that it depends on is made. At most `limit` children run at once, from 1 to 64. What a compiler gives is committed before the next
-/// start. After a refusal nothing more is started, but with `keep_going` all that doesn't depend on a refused file. After a fault nothing
-/// more is started, and what the children give that still run is committed where it can be; the first fault is
-/// answered, but out of memory in the place of any other. No child runs in the end.
+/// Builds the graph over a store of records, which was opened over it, and gives one status for each file. A file whose record is
+/// current over its dependencies is fresh. The other files are compiled, each once all its dependencies are made. At most `limit`
+/// children run at once, from 1 to 64. The artefact that a compiler gives is committed before the next start.
+///
+/// After a refusal nothing more is started; with `keep_going`, all files that don't depend on a refused file still are. After a
+/// fault nothing more is started, and the artefacts of the children that still run are committed if possible. The answer is the
+/// first fault, but out of memory takes the place of any other fault. No child runs in the end.
 pub fn build_statuses<K: Records, D: Disk, P: Procs>(
     alloc: Global,
     graph: &Graph,
@@ -104,7 +105,7 @@ pub fn build_statuses<K: Records, D: Disk, P: Procs>(
         })
         (record { ended = is_ok result; fault = fault_of result; broken = K.broken store.new })
         (λ events. IfOk result (λ statuses. statuses ≡ statuses_of setting events)) }
-    // Of each file that is fresh or compiled the store has a record of what would be asked for it now.
+    // For each file that is fresh or compiled, the store has a current record.
     ensures recorded { IfOk result (λ statuses. (position : ℕ) (status : FileStatus) →
         slice_get statuses position ≡ Some status → is_made status ≡ true →
         IsRecorded (K.latest_of store.new) graph.now position) }

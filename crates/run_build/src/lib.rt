@@ -1,6 +1,7 @@
-//! The build of a graph over a store of records, with up to 64 children at once: stale files are compiled, each once all
-//! that it depends on is made, and each artefact is committed before the next start.
-//! A run over a disk: its store is opened, and a graph is built over its records.
+//! The build of a graph over a store of records, with up to 64 children at once. Stale files are compiled, each once all its
+//! dependencies are made. Each artefact is committed before the next start.
+//!
+//! A run over a disk opens the store and builds a graph over its records.
 #![tactic(auto)]
 
 mod building;

@@ -1,4 +1,4 @@
-//! What is asked of a compiler, by the artefacts that the store lends.
+//! The requests to compilers, with the artefacts that the store lends.
 
 ghost use Rattle.std.specs.Prelude.{ℕ, ◌≡◌, ◌<◌, ◌≤◌, ◌++◌, ◌∷◌, [], List, Option, length, All, IsTrue, Some, IfOk, OnOk};
 ghost use Rattle.std.specs.List.{filter_map, flat_map};
