@@ -30,7 +30,7 @@ fn may_be_long(run: &TestRun) -> bool {
     names.saturating_mul(3).saturating_add(2) > FOLDER_LIMIT
 }
 
-/// Announces the path of the results of a run. Where there is no memory for it, it isn't announced.
+/// Announces the path of the results of a run. If memory for the path fails, nothing is announced.
 fn announce_run<P: Procs>(alloc: Global, run: &TestRun, procs: &mut P)
     ensures running { P.running procs.new ≡ P.running procs.old }
     ensures journal { P.journal procs.new ≡ P.journal procs.old }

@@ -24,12 +24,12 @@ use run_spec::{FileStatus, FileStatusList, RunFault};
 use std::alloc::Global;
 use testbench_runs::{TestEnd, TestRunList};
 
-/// What became of the files of a graph that was built, and of the tests that followed.
+/// The result of the build of a graph and of the tests that followed it.
 #[derive(Drop)]
 pub struct Tested {
     /// One status for each file, in order.
     pub statuses: FileStatusList,
-    /// What became of each run of tests, in order; nothing where a file isn't made, since no test is started then.
+    /// The end of each run of tests, in order; `None` if some file isn't made, since no test is started then.
     pub tests: Option<TestEnd>,
 }
 
@@ -128,7 +128,7 @@ fn test_opened<'g, K: Records + OpenRecords<'g> + Drop, D: Disk, P: Procs>(
         (has_risen (D.failed_disk_calls disk.old) (D.failed_disk_calls disk.new))
         (D.moments disk.old) (D.moments disk.new)
         (since (P.journal procs.old) (P.journal procs.new)) }
-    // Where its build commits nothing, over a disk that opening leaves as it is, nothing is written.
+    // Unless `clean` is true, a build without commits writes nothing if the disk is at rest when it begins.
     ensures rests { D.tells → P.tells →
         RestsOver K.records_of K.is_resting (order_by options graph.now) result
         (D.moments disk.old) (D.moments disk.new)
@@ -155,11 +155,12 @@ fn test_opened<'g, K: Records + OpenRecords<'g> + Drop, D: Disk, P: Procs>(
     }
 }
 
-/// Opens the store of a disk, builds a graph over its records as `build_over` does, and then, where all files are made,
-/// runs tests over exactly what was built: in order, each by one child of the simulator, with as many children at once
-/// as the build has. With `fail_fast` nothing more is started after the first run of which not all cases passed. After a
-/// fault nothing more is started; the first fault is answered. No child runs in the end. Before all that it announces the runs
-/// whose folder may have too long a name.
+/// First announces the runs whose folder may have too long a name. Then opens the store of a disk and builds a graph over its
+/// records, as `build_over` does. If all files are made, it runs tests over exactly the built files. The runs are started in
+/// order, each as one child of the simulator, with as many children at once as the build has.
+///
+/// With `fail_fast` nothing more is started after the first run with a case that has not passed. After a fault nothing more is
+/// started, and the first fault is returned. No child runs in the end.
 pub fn test_over<'g, K: Records + OpenRecords<'g> + Drop, D: Disk, P: Procs>(
     alloc: Global,
     graph: &'g Graph,
@@ -186,7 +187,7 @@ pub fn test_over<'g, K: Records + OpenRecords<'g> + Drop, D: Disk, P: Procs>(
         (has_risen (D.failed_disk_calls disk.old) (D.failed_disk_calls disk.new))
         (D.moments disk.old) (D.moments disk.new)
         (since (P.journal procs.old) (P.journal procs.new)) }
-    // Where its build commits nothing, over a disk that opening leaves as it is, nothing is written.
+    // Unless `clean` is true, a build without commits writes nothing if the disk is at rest when it begins.
     ensures rests { D.tells → P.tells →
         RestsOver K.records_of K.is_resting (order_by options graph.now) result
         (D.moments disk.old) (D.moments disk.new)

@@ -24,7 +24,7 @@ use run_spec::{RunFault, note};
 use std::alloc::Global;
 use testbench_runs::{RunEnd, TestRunList};
 
-/// Takes the exit of a child: what became of its run. Where there is no memory for it, nothing more is started.
+/// Records the exit of a child as the end of its run. If memory fails, nothing more is started.
 fn take_exit(
     alloc: Global,
     runs: &TestRunList,

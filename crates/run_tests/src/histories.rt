@@ -20,30 +20,32 @@ ghost use Rattle.run_tests.specs.Spares.{AllSpare};
 /// What holds of every history of runs with their tests, edits of the sources, and stops by a loss of power or a kill of the
 /// program, with any number of children at once. The compiler is one function of its requests; simulators may answer anything.
 pub fn laws_of_histories()
-    // From a disk that holds true records alone, each run is right with its tests: whatever a stop can leave has true records
-    // alone, each compiler is asked what a clean build of the sources of its run asks it, and each start of a test, also in a
-    // run that is stopped, is over the libraries of that clean build.
+    // From a disk with only true records, each run is right with its tests. Whatever a stop can leave has only true records. Each
+    // request to a compiler is that of a clean build of the sources of the run. Each test, also in a run that is stopped, starts
+    // over the libraries of that clean build.
     ensures right { (world : World) (sources : Sources) (disk : DiskState)
         (steps : List HistoryStep) → IsReadable disk →
         IsFaithfulDisk world.compiler world.records_of disk →
         IsHistory world sources disk steps → AllRight world sources disk steps }
-    // So it is from an empty disk.
+    // The same holds from an empty disk.
     ensures from_empty { (world : World) (sources : Sources) (steps : List HistoryStep) →
         world.records_of empty_image ≡ [] →
         IsHistory world sources (settled_disk empty_image) steps →
         AllRight world sources (settled_disk empty_image) steps }
-    // Whatever its records say, no run starts a file of which is asked what its acknowledged record has.
+    // Whatever the records of the disk say, no run starts a file whose acknowledged record has the request that is due for it. This
+    // holds until a run rebuilds everything, or commits a record of the name without that request being due.
     ensures spares { (world : World) (sources : Sources) (disk : DiskState)
         (steps : List HistoryStep) (name : FileName) (kept : Record) → IsReadable disk →
         IsAcknowledged world name kept disk →
         IsHistory world sources disk steps → AllSpare world name kept sources disk steps }
-    // So it is after a stop, of each record that was acknowledged at its moment,
+    // After a stop, the same holds of each record that was acknowledged at the moment of the stop.
     ensures stopped { (world : World) (sources : Sources) (disk : DiskState) (run : ProgramRun)
         (stop : Stop) (steps : List HistoryStep) (name : FileName) (kept : Record) →
         IsHistory world sources disk (Stopped run stop ∷ steps) →
         IsAcknowledged world name kept stop.moment →
         AllSpare world name kept sources stop.disk steps }
-    // or at an earlier one of its run; in a run that builds all anew, of those that reads didn't give before it.
+    // It also holds of a record that was acknowledged at an earlier moment of the run and has the request that is due for its file.
+    // If the run rebuilds everything, reads must not have given the record as the latest of its name before the run.
     ensures stopped_since { (world : World) (sources : Sources) (disk : DiskState)
         (run : ProgramRun) (stop : Stop) (steps : List HistoryStep) (order : Order)
         (name : FileName) (kept : Record) → IsReadable disk →
@@ -55,7 +57,8 @@ pub fn laws_of_histories()
         (moment : DiskState) (is : IsMoment moment disk run.later) →
         IsAcknowledged world name kept moment → IsMoment stop.moment moment is.after →
         AllSpare world name kept sources stop.disk steps }
-    // Steps after steps are a history where both are, the later ones from the sources and the disk that the earlier ones leave.
+    // Two lists of steps, one after the other, are a history exactly if each is one: the later list from the sources and the disk
+    // that the earlier list leaves.
     ensures joined { (world : World) (sources : Sources) (disk : DiskState)
         (steps more : List HistoryStep) → IsHistory world sources disk (steps ++ more)
         ↔ (IsHistory world sources disk steps

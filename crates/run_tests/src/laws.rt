@@ -23,14 +23,13 @@ ghost use Rattle.run_tests.specs.Results.{test_ends, steady_ends};
 
 /// What holds of the files that tests start over.
 pub fn laws_of_libraries()
-    // Where what is recorded is what a clean build makes, and all files are made in the end, what was built are the
-    // libraries of a clean build.
+    // If the current records are clean, and all files are made in the end, the built files are the libraries of a clean build.
     ensures built { (answer : Request → Exit) (work : Work) → IsGraph work.graph →
         RecordsClean answer work.graph work.current → (events : List Event) →
         Lawful work events → Answered answer events →
         list_all is_made (statuses_of work events) ≡ true →
         built_by work events ≡ libraries answer work.graph }
-    // So from a disk of true records each test starts over these, whatever the answer is.
+    // From a disk of true records, each test starts over these libraries, whatever the result is.
     ensures tests { (records_of : Image → List Record) (answer : Request → Exit) (order : Order)
         (plan : TestPlan) (result : Result Tested RunFault) (failed : Bool)
         (old new : Moments) (events : List Event) →
@@ -44,7 +43,8 @@ pub fn laws_of_libraries()
 
 /// What holds of the ends of tests that ended by themselves, without `--fail-fast`.
 pub fn laws_of_test_ends()
-    // What becomes of each run is that of the answer to its request, whatever the order of ends, and however many ran at once.
+    // The end of each run is that of the answer to its request, whatever the order of ends, and however many runs there were at
+    // once.
     ensures { (answer : Request → Exit) (setting : TestSetting) (events : List Event) →
         setting.plan.fail_fast ≡ false → IsWholeTests setting events → Answered answer events →
         test_ends setting events ≡ steady_ends answer setting.plan setting.built }

@@ -1,6 +1,8 @@
-//! The loop that runs tests with up to 64 children at once: runs are started in order, and what became of each is kept.
-//! A build over a disk, and then the tests of what was built.
-//! Laws of tests that follow a build: they start over the libraries of a clean build, also in each run of a history.
+//! Tests of built files.
+//!
+//! - The loop that runs tests with up to 64 children at once. Runs are started in order, and the end of each is kept.
+//! - A build over a disk, followed by the tests of the built files.
+//! - Laws of tests that follow a build: they start over the libraries of a clean build, also in each run of a history.
 #![tactic(auto)]
 
 mod announcing;

@@ -1,4 +1,4 @@
-//! What became of a run.
+//! The ends of runs.
 
 ghost use Rattle.std.specs.Prelude.{◌≡◌, map, take, IfOk};
 ghost use Rattle.std.specs.List.{list_all};
@@ -9,7 +9,7 @@ use base::{Exit, NoMemory, Text, TextList};
 use std::alloc::Global;
 use testbench_runs::{RunEnd, SHOWN_LIMIT, TestRun, TestRunList, Verdict, VerdictList, verdicts};
 
-/// A verdict for each name, none of which was started.
+/// The verdict of a case that wasn't started, for each name.
 fn all_skipped(alloc: Global, names: &TextList) -> Result<VerdictList, NoMemory>
     ensures { IfOk result (λ list. list ≡ map (λ name. Verdict.Skipped) names.now) }
 {
@@ -20,7 +20,7 @@ fn all_skipped(alloc: Global, names: &TextList) -> Result<VerdictList, NoMemory>
     Ok(list)
 }
 
-/// The first bytes of an output, at most so many.
+/// The first bytes of an output, at most `limit`.
 fn first_bytes(limit: usize, output: &[u8]) -> &[u8]
     ensures { result.now ≡ take limit output.now }
 {
@@ -34,7 +34,7 @@ fn shown_output(alloc: Global, output: &[u8]) -> Result<Text, NoMemory>
     Text::from_slice(alloc, first_bytes(SHOWN_LIMIT, output))
 }
 
-/// What became of a run that was never started.
+/// The end of a run that was never started.
 fn unstarted_run(alloc: Global, run: &TestRun) -> Result<RunEnd, NoMemory>
     ensures { IfOk result (λ end. end ≡ unstarted_run run.now) }
 {
@@ -47,7 +47,7 @@ fn unstarted_run(alloc: Global, run: &TestRun) -> Result<RunEnd, NoMemory>
     })
 }
 
-/// What became of a run whose child has ended.
+/// The end of a run whose child has ended.
 pub(crate) fn ended_run(alloc: Global, run: &TestRun, exit: &Exit) -> Result<RunEnd, NoMemory>
     ensures { IfOk result (λ end. end ≡ ended_run run.now exit.now) }
 {
@@ -83,7 +83,7 @@ pub(crate) fn has_passed(end: &RunEnd) -> bool
     are_passed(end.verdicts.as_slice())
 }
 
-/// What became of runs of which none was started.
+/// The ends of runs before the first start.
 pub(crate) fn unstarted_runs(alloc: Global, runs: &TestRunList) -> Result<Vec<RunEnd>, NoMemory>
     ensures { IfOk result (λ found. found.items ≡ map unstarted_run runs.now) }
 {

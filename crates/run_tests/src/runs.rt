@@ -33,7 +33,7 @@ struct Begun {
     built: Text,
 }
 
-/// The row of runs, what became of each where nothing has happened yet, and the bytes of the files that all are over.
+/// The scheduler of runs and their ends before any event, and the bytes of the files that all runs have.
 fn begin<K: Records>(
     alloc: Global,
     graph: &Graph,
@@ -65,11 +65,13 @@ fn begin<K: Records>(
     })
 }
 
-/// Runs tests in order, each by one child of the simulator, which is asked over the artefacts that the store has of all
-/// files of the graph, and gives what became of each run. The bytes of these files are put together once for all runs. At most `limit`
-/// children run at once, from 1 to 64; there are at most 65,536 runs. With `fail_fast` nothing more is started after the first run of which
-/// not all cases passed. After a fault nothing more is started, and the children that still run are waited for; the first fault is
-/// answered, but out of memory in the place of any other. No child runs in the end.
+/// Runs tests in order, each as one child of the simulator, and gives the end of each run. The requests have the artefacts that the
+/// store has of all files of the graph; their bytes are put together once for all runs. At most `limit` children run at once,
+/// from 1 to 64. There are at most 65,536 runs.
+///
+/// With `fail_fast` nothing more is started after the first run with a case that has not passed. After a fault nothing more is
+/// started, and the children that still run are waited for. The first fault is returned, but out of memory takes the place of any
+/// other fault. No child runs in the end.
 pub fn run_tests<K: Records, P: Procs>(
     alloc: Global,
     graph: &Graph,
