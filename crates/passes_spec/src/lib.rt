@@ -1,5 +1,8 @@
-//! Passes of tests, as definitions: when a pass is true, which is the last of the same tests, which runs are known to pass
-//! and need no start, and which passes an image has; with laws of them. Nothing runs here.
+//! Definitions of passes of tests, and their laws. Nothing runs here. The definitions say:
+//!
+//! - when a pass is true, and which pass is the last of the same tests;
+//! - which runs are known to pass and need no start;
+//! - which passes an image has.
 #![tactic(auto)]
 
 mod laws;
