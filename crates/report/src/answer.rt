@@ -1,4 +1,4 @@
-//! What runs of tests answer.
+//! The outcome of runs of tests.
 
 ghost use Rattle.std.specs.Prelude.{◌≡◌};
 ghost use Rattle.report.specs.Counts.{tests_outcome};
@@ -7,8 +7,8 @@ use crate::tally::have_all_passed;
 use base_outcomes::Outcome;
 use testbench_runs::TestEnd;
 
-/// What runs of tests answer: `TestsFailed` exactly where some case has not passed and `exit_0` is false, and else
-/// `Done`, as where there are no cases.
+/// The outcome of runs of tests: `TestsFailed` if some case has not passed and `exit_0` is false, otherwise `Done`. Without
+/// cases the outcome is `Done`.
 pub fn tests_outcome(end: &TestEnd, exit_0: bool) -> Outcome
     ensures { result ≡ tests_outcome end.now.runs exit_0 }
 {

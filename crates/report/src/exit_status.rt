@@ -5,9 +5,15 @@ ghost use Rattle.report.specs.Status.{exit_status};
 
 use base_outcomes::Outcome;
 
-/// The status that the program ends with: 0 where all is done, 1 where the sources, a file or a test was refused, 2
-/// for faulty words, 3 for a fault of the outside, 4 for lack of memory, 5 for a passed limit; a child's is its code,
-/// or 255 where that is more.
+/// The exit status of the program:
+///
+/// - 0 if all is done,
+/// - 1 if the sources or a file was refused, or a test failed,
+/// - 2 if the command line is wrong,
+/// - 3 after a fault of an outside object,
+/// - 4 without enough memory,
+/// - 5 over a limit,
+/// - for a child its code, or 255 if the code is greater.
 pub fn exit_status_of(outcome: &Outcome) -> u8
     ensures { result ≡ exit_status outcome.now }
 {

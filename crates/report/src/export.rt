@@ -170,7 +170,7 @@ pub fn export_json(
     Ok(Text::from_vec(text))
 }
 
-/// A text that is UTF-8 is exported as it is.
+/// A text that is UTF-8 is exported unchanged, as a string.
 pub fn laws_of_exports()
     ensures { (bytes : List ℕ) → IsUtf8 bytes → text_data bytes ≡ string bytes }
 {}

@@ -1,4 +1,4 @@
-//! What is said of a faulty project file, and of benches that are wrong.
+//! The messages for a faulty project file and for faulty benches.
 
 ghost use Rattle.std.specs.Prelude.{◌≡◌, ◌++◌, OnOk};
 ghost use Rattle.std.specs.Fmt.{decimal};
@@ -63,7 +63,7 @@ fn put_nothing_matches(out: &mut Vec<u8>, pattern: &[u8]) -> Result<(), NoMemory
     put_both(out, b"nothing matches ", pattern)
 }
 
-/// Puts what is wrong with a project file at the end of `out`, without a line feed. After `NoMemory` a part of it may be there.
+/// Appends the message for a faulty project file to `out`, without a line feed. After `NoMemory`, `out` may have a part of it.
 #[tactic(auto, unfolding(crate::specs::Texts::not_toml, crate::specs::Texts::work_library, crate::specs::Texts::not_in_project))]
 pub fn put_fault(alloc: Global, out: &mut Vec<u8>, fault: &ProjectFault) -> Result<(), NoMemory>
     ensures { OnOk result (out.new.items ≡ out.old.items ++ fault_words fault.now) }
@@ -128,8 +128,8 @@ fn put_test_twice(out: &mut Vec<u8>, name: &[u8]) -> Result<(), NoMemory>
     put_around(out, b"test ", name, b" stands twice")
 }
 
-/// Puts what is wrong with the benches of a project at the end of `out`, without a line feed. After `NoMemory` a part of it may
-/// be there.
+/// Appends the message for faulty benches of a project to `out`, without a line feed. After `NoMemory`, `out` may have a part of
+/// it.
 pub fn put_test_fault(out: &mut Vec<u8>, fault: &TestFault) -> Result<(), NoMemory>
     ensures { OnOk result (out.new.items ≡ out.old.items ++ test_words fault.now) }
 {

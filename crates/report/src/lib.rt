@@ -1,8 +1,9 @@
-//! What a run says: the texts of a build, of the files of a graph, of refusals and of limits, what a build answers, and
-//! the status of the program.
-//! What a run of tests says: the text of its verdicts, the same as JUnit XML, and what it answers.
-//! What a run says and answers of its build and of the tests that followed it.
-//! What is said of the tests of a project: their list, and the export that editors and scripts read.
+//! The output and the outcome of a run.
+//!
+//! - The texts of a build, of the files of a graph, of refusals and of limits, the outcome of a build, and the exit status.
+//! - The verdicts of tests as text and as JUnit XML, and the outcome of tests.
+//! - The output and the outcome of a build together with the tests that followed it.
+//! - The list of the tests of a project, and the export that editors and scripts read.
 #![tactic(auto)]
 
 mod answer;

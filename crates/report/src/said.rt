@@ -1,4 +1,4 @@
-//! The text of a run, its report, and its answer.
+//! The text of a run, its report, and its outcome.
 
 ghost use Rattle.std.specs.Prelude.{◌≡◌, ◌++◌, IfOk, Some, None, if◌then◌else◌, length};
 ghost use Rattle.report.specs.Texts.{shown_bytes, build_text};
@@ -13,8 +13,8 @@ use run_spec::FileStatusList;
 use std::alloc::Global;
 use testbench_runs::{TestEnd, TestRunList};
 
-/// How a run says what became of its tests: with the outputs of all, with none of them, with the same answer whether they
-/// pass or not; and whether a report of them is wanted.
+/// How a run reports its tests. `verbose` shows the outputs of all runs, and `quiet`, which overrides it, shows no output. With
+/// `exit_0` the outcome is the same whether the tests pass or not. With `report` a report in JUnit XML is made.
 #[derive(Clone, Copy, Debug, PartialEq, Eq)]
 pub struct TestWords {
     pub verbose: bool,
@@ -23,17 +23,17 @@ pub struct TestWords {
     pub report: bool,
 }
 
-/// What a run says.
+/// The output and the outcome of a run.
 #[derive(Drop)]
 pub struct RunSaid {
     pub outcome: Outcome,
-    /// What is put.
+    /// The text that is printed.
     pub text: Text,
-    /// The report of tests as JUnit XML, where it is wanted and tests were run.
+    /// The report of tests as JUnit XML, if it is wanted and tests were run.
     pub report: Option<Text>,
 }
 
-/// The text of a build after that of warnings.
+/// The text of the warnings, and then the text of a build.
 fn build_part(
     alloc: Global,
     warnings: Text,
@@ -49,7 +49,7 @@ fn build_part(
     Ok(Text::from_vec(text))
 }
 
-/// What is said of a build without tests.
+/// The output and the outcome of a build without tests.
 fn said_of_build(
     alloc: Global,
     warnings: Text,
@@ -68,7 +68,7 @@ fn said_of_build(
     })
 }
 
-/// The report, where it is wanted.
+/// The report, if it is wanted.
 fn report_of(
     alloc: Global,
     wanted: bool,
@@ -85,7 +85,7 @@ fn report_of(
     }
 }
 
-/// The text of a build and of tests after that of warnings.
+/// The text of the warnings, and then the texts of a build and of tests.
 fn whole_text(
     alloc: Global,
     warnings: Text,
@@ -104,7 +104,7 @@ fn whole_text(
     Ok(Text::from_vec(text))
 }
 
-/// What is said of a build and of the tests that followed it.
+/// The output and the outcome of a build and of the tests that followed it.
 fn said_of_tests(
     alloc: Global,
     warnings: Text,
@@ -127,9 +127,9 @@ fn said_of_tests(
     })
 }
 
-/// What a run says and answers, by the statuses of its build, and by what became of its tests where any were run: the text of
-/// the build after that of warnings, and then that of the tests; the report where it is wanted; and the answer of the
-/// tests, or of the build where there were none.
+/// The output and the outcome of a run, by the statuses of its build and the ends of its tests, if tests were run. The text has
+/// the warnings, the build, and the tests, in this order. If tests were run and the report is wanted, there is one. The outcome
+/// is that of the tests, or, if no tests were run, that of the build.
 pub fn said_of_run(
     alloc: Global,
     warnings: Text,

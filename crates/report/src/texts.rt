@@ -122,11 +122,14 @@ fn no_tests(alloc: Global) -> Result<Text, NoMemory>
     Ok(Text::from_slice(alloc, b"No tests were run!\n")?)
 }
 
-/// What is put of runs of tests, in their order: of each what it printed, up to 4,096 bytes, where `quiet` is false and
-/// either `verbose` is true or some case of the run has not passed, and then a line for each of its cases, with the
-/// verdict and the full name; and after them how many cases there are of each verdict, and whether all have passed. Where
-/// there are no cases it is that no tests were run. A name without a verdict, and a verdict without a name, has no line.
-/// Time and memory go by the bytes that are put.
+/// The text of runs of tests. For each run, in order, it has:
+///
+/// - what the run printed, up to 4,096 bytes, if `quiet` is false and either `verbose` is true or a case of the run has not passed,
+/// - a line for each case, with the verdict and the full name.
+///
+/// After the runs it has the number of cases with each verdict, and whether all have passed. Without cases the text says only
+/// that no tests were run. A name without a verdict, or a verdict without a name, has no line. Time and memory are in proportion
+/// to the bytes of the text.
 pub fn test_text(alloc: Global, end: &TestEnd, verbose: bool, quiet: bool) -> Result<Text, NoMemory>
     ensures { IfOk result (λ text. text ≡ test_text verbose quiet end.now.runs) }
 {

@@ -194,11 +194,12 @@ fn put_last_line(out: &mut Vec<u8>) -> Result<(), NoMemory>
     put(out, b"</testsuite>\n")
 }
 
-/// What became of runs of tests as JUnit XML: a case of a class for each case of each run, in order, with `LIBRARY.BENCH`
-/// as the class and the name of the case as its name. `runs` and `end` go together: run by run, the cases of the run have
-/// the verdicts of its end, and where one list is longer than the other, the rest of it has no element. In names the five
-/// characters that XML reads otherwise are written by their names, and U+FFFE and U+FFFF, which XML has not, as U+FFFD;
-/// all other bytes are as they are. Time and memory go by the bytes that are put.
+/// The verdicts of runs of tests as JUnit XML. Each case of each run, in order, is a `testcase`, with `LIBRARY.BENCH` as its class
+/// and the name of the case as its name. Each run of `runs` takes the verdicts of its cases from the run of `end` with the same
+/// index. If one list is longer than the other, the rest of it has no element.
+///
+/// In names, the five special characters of XML are written as named entities. U+FFFE and U+FFFF, which XML does not allow, are
+/// written as U+FFFD. All other bytes are unchanged. Time and memory are in proportion to the bytes of the text.
 pub fn junit(alloc: Global, runs: &TestRunList, end: &TestEnd) -> Result<Text, NoMemory>
     ensures { IfOk result (λ text. text ≡ junit runs.now end.now.runs) }
 {
