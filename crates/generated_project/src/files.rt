@@ -154,7 +154,7 @@ pub fn package_text(alloc: Global, number: u64, noted: bool) -> Result<Text, NoM
     Ok(Text::from_vec(text))
 }
 
-/// The file of a package, where that of a number is edited.
+/// The file of a package, which is edited if its number is `edited`.
 fn package_file(alloc: Global, edited: u64, number: u64) -> Result<NamedText, NoMemory>
     ensures { IfOk result (λ file. file ≡ package_file edited number) }
 {
@@ -179,16 +179,17 @@ fn push_packages(
     Ok(())
 }
 
-/// The package that is edited: the second, or the first where there is no second.
+/// The number of the package that is edited: 2, or 1 if there are fewer than two packages.
 pub fn edited_package(count: u32) -> u64
     ensures { result ≡ edited_package count }
 {
     if 1 < count { 2 } else { 1 }
 }
 
-/// The files of the generated project of so many packages, of which that of a number is edited, or none where no package has
-/// that number. The project file is `vunit.toml`; package K, for K from 1 on, is `src/fK.vhd`, and uses the package of half
-/// its number, rounded down, but for the first; the bench is `tb.vhd`, and uses the first package.
+/// The files of the generated project with `count` packages: the project file `vunit.toml`, the bench `tb.vhd`, and the
+/// packages `src/fK.vhd`, with the numbers K from 1 on. The bench uses the first package. Each package K but the first uses
+/// package K / 2, rounded down. The package with the number `edited` is edited; if no package has this number, none is
+/// edited.
 pub fn generated_files(alloc: Global, count: u32, edited: u64) -> Result<NamedTextList, NoMemory>
     ensures { IfOk result (λ files. files ≡ generated_files count edited) }
 {

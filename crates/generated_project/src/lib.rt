@@ -1,5 +1,5 @@
-//! The generated project: its files as texts, by how many packages it has, and as a tree in memory; and the lines that say
-//! what became of it.
+//! The generated project: its files as texts and as a tree in memory, by the number of its packages. Also the lines with the
+//! counts of its builds and tests.
 #![tactic(auto)]
 
 mod files;

@@ -1,4 +1,4 @@
-//! The lines that say what became of the generated project.
+//! The lines with the counts of the builds and tests of the generated project.
 
 ghost use Rattle.std.specs.Prelude.{◌≡◌, ◌++◌, IfOk, OnOk};
 ghost use Rattle.generated_project.specs.Lines.{files_words, first_words, second_words, passed_words, of_word, number_line, passed_line, count_lines};

@@ -55,7 +55,7 @@ fn read_text(text: Text, limit: u64) -> ReadEnd
     }
 }
 
-/// The text of the file of a path, where this is that of a package.
+/// The text of the file of a path, if it is the path of a package.
 fn package_of(
     alloc: Global,
     packages: u32,
@@ -80,7 +80,8 @@ fn package_of(
 }
 
 impl GeneratedTree {
-    /// The tree of the generated project of so many packages, of which that of a number is edited, or none.
+    /// The tree of the generated project with `packages` packages. The one with the number `edited` is edited, if there is
+    /// one.
     pub fn new(alloc: Global, packages: u32, edited: u64) -> Result<GeneratedTree, NoMemory>
         ensures files { IfOk result (λ tree. tree.files ≡ generated_files packages edited) }
     {
@@ -93,7 +94,7 @@ impl GeneratedTree {
         })
     }
 
-    /// Puts a path at the end of what was asked for.
+    /// Adds a path to the end of the list of the paths that were asked for.
     fn note(&mut self, alloc: Global, path: &Text) -> Result<(), NoMemory>
         ensures files { self.new.files ≡ self.old.files }
         ensures asked { OnOk result (self.new.asked ≡ self.old.asked ++ path.now ∷ []) }
