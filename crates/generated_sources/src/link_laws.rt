@@ -8,9 +8,9 @@ ghost use Rattle.vhdl_spec.specs.Dependencies.{link_of, link_units};
 ghost use Rattle.vhdl_spec.specs.Scans.{Clean, Finding, IsScanner};
 ghost use Rattle.generated_sources.specs.NumberedFiles.{AreAllNumbers, AreNumbers, numbered_edges, numbered_project, numbered_scan, numbered_bytes};
 
-/// Whatever order its files come in, no name of the generated project is missing or given twice, and there is no warning:
-/// the bench depends on the first package, and each other package on that of half its number. So the files have a compile
-/// order.
+/// Laws of linking the generated project, in whatever order its files come. No unit is missing or duplicate, and there is no
+/// warning. The bench depends on the first package. Each package K but the first depends on package K / 2, rounded down. So
+/// the files have a compile order, if there are at most `FILE_LIMIT` files.
 pub fn laws_of_links()
     ensures scanned { (scan : List ℕ → Finding) (edited number : ℕ) →
         IsScanner scan → number < 2 ^ 64 →

@@ -8,8 +8,8 @@ ghost use Rattle.generated_project.specs.Files.{generated_files, toml_text};
 ghost use Rattle.generated_sources.specs.NumberedFiles.{AreAllNumbers, numbered_project};
 ghost use Rattle.generated_sources.specs.ListedNumbers.{listed_numbers};
 
-/// Over the listing of the generated files the project file says one library of all packages, in the order of their paths,
-/// and of the bench, with the compiler and the simulator that are part of the program.
+/// For the listing of the generated files, the project file gives one library: all packages in the order of their paths, and
+/// then the bench. Its compiler and its simulator are the built-in ones.
 pub fn laws_of_listings()
     ensures numbers { (count : ℕ) → count < 2 ^ 64 → AreAllNumbers count (listed_numbers count) }
     ensures few { (count : ℕ) → count < 2 ^ 64 → length (listed_numbers count) ≡ count + 1 }
