@@ -19,8 +19,8 @@ ghost use Rattle.generated_children.specs.CompiledExamples.{CompiledExamples};
 ghost use Rattle.generated_children.specs.CompiledFiles.{HasPackage, IsLoopEntry, IsPackageBuilt};
 ghost use Rattle.generated_children.specs.CompiledTexts.{bench_artefact, package_artefact};
 
-/// The file of each package, edited or not, is compiled over whatever files were built, as long as the package that it uses
-/// is one of them: the child ends with code 0 and the package's artefact, which depends on nothing else.
+/// The built-in compiler compiles the file of each package, edited or not, over any built files that include the package that
+/// it uses. The child ends with code 0 and the package's artefact, which depends on nothing else.
 pub fn laws_of_package_answers()
     // By what a scanner finds in texts,
     ensures exit { (scan : List ℕ → Finding) (entry : Entry) (deps : List BuiltFile)
@@ -40,7 +40,7 @@ pub fn laws_of_package_answers()
         ≡ ends_with 0 (package_artefact number noted) }
 {}
 
-/// The file of the bench is compiled over whatever files were built, as long as the first package is one of them.
+/// The built-in compiler compiles the file of the bench over any built files that include the first package.
 pub fn laws_of_bench_answers()
     ensures exit { (scan : List ℕ → Finding) (entry : Entry) (deps : List BuiltFile) →
         IsScanner scan → IsLoopEntry bench_path (bench_head ++ bench_body) entry →

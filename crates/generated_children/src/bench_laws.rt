@@ -22,8 +22,9 @@ ghost use Rattle.generated_children.specs.TestExamples.{TestExamples};
 ghost use Rattle.generated_children.specs.TestedBench.{AreTestable, IsBuiltBench, IsGenerated, both_runs, case_run, first_case, passing_exit, second_case, lets_pass};
 ghost use Rattle.generated_children.specs.CompiledTexts.{bench_artefact, package_artefact};
 
-/// A simulator that is part of the program ends well over files of which one has the bench and none makes a case fail:
-/// its results say that the case was started, and that all is done. No artefact of the generated project makes one fail.
+/// The built-in simulator passes each of the two cases over built files if one of them has the bench and none makes a case
+/// fail. Its results say that the case was started and that all is done. No artefact of the generated project makes a case
+/// fail.
 pub fn laws_of_simulations()
     ensures first { (scan : List ℕ → Finding) (simulator : List (List ℕ))
         (built : List BuiltFile) →
