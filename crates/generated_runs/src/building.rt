@@ -18,7 +18,7 @@ use run_spec::{FileStatusList, RunFault};
 use std::alloc::Global;
 use store::RequestStore;
 
-/// Why a build over a disk in memory ended, which fails for want of memory alone.
+/// The fault of a build over a disk in memory. Such a disk fails only if memory runs out, so its fault becomes out of memory.
 pub fn own_fault(fault: RunFault) -> RunFault
     ensures same { (first now : BuildFaultCounts) (disks : ℕ) → Explains (Some fault) first now →
         Explains (Some result)
@@ -33,7 +33,7 @@ pub fn own_fault(fault: RunFault) -> RunFault
     }
 }
 
-/// Builds a graph over a disk in memory, whose records don't count.
+/// Builds a graph over a disk in memory. Records on the disk do not count.
 pub fn build_first<P: Procs>(
     alloc: Global,
     graph: &Graph,

@@ -1,5 +1,5 @@
-//! The generated project, built and tested: it is built over an empty disk, one file is edited, and it is built again and
-//! tested, by the same functions as any project, over a tree and a disk in memory.
+//! Builds and tests the generated project, with the same functions as any project, over a tree and a disk in memory. The
+//! project is built over an empty disk. Then one file is edited, and the project is built again and tested.
 #![tactic(auto)]
 
 mod building;

@@ -1,10 +1,10 @@
-//! How a project is generated, and what is said of it.
+//! The options of a run of the generated project, and its result.
 
 use base::Text;
 use base_outcomes::Outcome;
 
-/// So many packages are generated beside the bench; so many children run at once; and whether failed tests are no matter for
-/// the answer.
+/// How many packages are generated beside the bench, how many children run at once at most, and whether the answer is the
+/// same if tests fail.
 #[derive(Clone, Copy, Debug, PartialEq, Eq)]
 pub struct GenerateOptions {
     pub packages: u32,
@@ -12,7 +12,7 @@ pub struct GenerateOptions {
     pub exit_0: bool,
 }
 
-/// What is answered, and what is put.
+/// The answer, and the text to put.
 #[derive(Drop)]
 pub struct GeneratedSaid {
     pub outcome: Outcome,

@@ -30,10 +30,10 @@ use run_spec::RunFault;
 use std::alloc::Global;
 use testbench_runs::TestRunList;
 
-/// The package that no edit changes.
+/// The number of no package: nothing is edited.
 const UNEDITED: u64 = 0;
 
-/// Builds the edited project and runs these tests of it, and gives what is said of both builds.
+/// Builds the edited project, runs these tests of it, and gives the answer and the text.
 fn test_planned<P: Procs>(
     alloc: Global,
     read: &ReadProject,
@@ -146,7 +146,7 @@ fn run_edited<P: Procs>(
     }
 }
 
-/// Builds the project that was read over a disk in memory, and goes on where all files are made.
+/// Builds the project that was read over a disk in memory, and continues with the edit if all files are made.
 fn run_read<P: Procs>(
     alloc: Global,
     read: &ReadProject,
@@ -187,12 +187,15 @@ fn run_read<P: Procs>(
     }
 }
 
-/// Builds a generated project of so many packages and a bench over an empty disk, edits one package, and where all files were
-/// made builds it again over the records of the first build and runs all of its tests; and gives what is said: of a build
-/// that has a refused file its text and its answer, and else how many files there are, how many of them each build compiled and
-/// how many cases have passed, with the answer of the tests. The tree and the disk are in memory; the children are those that are
-/// handed in. After a fault nothing more is started; the first is answered, and out of memory where memory is out. No child
-/// runs in the end.
+/// Builds a generated project with a bench over an empty disk, and edits one package. If all files were made, builds the
+/// project again over the records of the first build, and if all files are made again, runs all of its tests.
+///
+/// The result is an answer and a text. If a build has a refused file, they are those of this build. If the sources cannot be
+/// built, they are those of the refusal or the limit. Otherwise the answer is that of the tests. The text then says how many
+/// files there are, how many of them each build compiled, and how many of all cases have passed.
+///
+/// The tree and the disk are in memory; the caller gives the children. After a fault nothing more is started. The first fault
+/// is answered, and out of memory if memory has run out. No child runs at the return.
 pub fn run_generated<P: Procs>(
     alloc: Global,
     options: GenerateOptions,

@@ -1,4 +1,4 @@
-//! What is said of the generated project.
+//! The answer and the text of a run of the generated project.
 
 ghost use Rattle.std.specs.Prelude.{◌≡◌, ◌≤◌, ◌<◌, ◌^◌, ◌++◌, ℕ, List, Err, length, count_by, IfOk, OnOk};
 ghost use Rattle.std.specs.List.{list_all};
@@ -84,7 +84,7 @@ fn limit_said(alloc: Global, limit: Limit, number: u64) -> Result<GeneratedSaid,
     })
 }
 
-/// What is said where the sources give nothing to build, before their edit or after it.
+/// The answer and the text if the sources give nothing to build, before their edit or after it.
 pub fn stop_said(alloc: Global, stop: ReadStop) -> Result<GeneratedSaid, NoMemory>
     requires { stop ≡ why.Failed → ⊥ }
     ensures first { (options : GenerateOptions) (found edited : SourceReading) →
@@ -121,7 +121,7 @@ fn statuses_text(
     Ok(Text::from_vec(text))
 }
 
-/// What is said of a build with these statuses.
+/// The answer and the text of a build with these statuses.
 pub fn statuses_said(
     alloc: Global,
     read: &ReadProject,
@@ -136,7 +136,7 @@ pub fn statuses_said(
     Ok(GeneratedSaid { outcome, text })
 }
 
-/// What is said of two builds that compiled so many files, and of the tests.
+/// The answer of the tests, and the lines with the counts. `first` and `second` are how many files each build compiled.
 fn counted_said(
     alloc: Global,
     options: GenerateOptions,
@@ -160,7 +160,8 @@ fn counted_said(
     Ok(GeneratedSaid { outcome, text })
 }
 
-/// What is said of the second build and of its tests, if there were any, after a first that compiled so many files.
+/// The answer and the text after the second build: those of the tests, or those of this build if no test was run. `first` is
+/// how many files the first build compiled.
 pub fn tested_said(
     alloc: Global,
     options: GenerateOptions,

@@ -13,7 +13,7 @@ use generated_project::GeneratedTree;
 use project_reading::{Query, QueryKind, ReadProject, ReadStop, read_project};
 use std::alloc::Global;
 
-/// Why nothing is compiled, where a tree in memory fails for want of memory alone.
+/// The reason why nothing is compiled. A tree in memory fails only if memory runs out, so its fault becomes out of memory.
 fn own_stop(stop: ReadStop) -> ReadStop
     ensures leads { (found : SourceReading) →
         LeadsTo found (Err stop) → LeadsTo found (Err result) }
@@ -27,7 +27,7 @@ fn own_stop(stop: ReadStop) -> ReadStop
     }
 }
 
-/// So much is wanted, of all tests.
+/// The query of this kind with the pattern `*`, which matches every test.
 #[tactic(auto, unfolding(crate::specs::Sources::any_name))]
 pub fn query_for(alloc: Global, query_kind: QueryKind) -> Result<Query, NoMemory>
     ensures { IfOk result (λ query. query ≡ query_for query_kind) }
@@ -40,7 +40,7 @@ pub fn query_for(alloc: Global, query_kind: QueryKind) -> Result<Query, NoMemory
     })
 }
 
-/// What is read of the generated project.
+/// Reads the generated project for a query.
 fn read_queried(
     alloc: Global,
     packages: u32,
@@ -61,7 +61,7 @@ fn read_queried(
     }
 }
 
-/// What is read of the generated project, where so much is wanted, of all tests.
+/// Reads the generated project for the query of this kind that selects all tests.
 pub fn read_generated(
     alloc: Global,
     packages: u32,
