@@ -85,7 +85,7 @@ pub fn laws_of_numbered_builds()
         (numbered_built artefact edited number) }
 {}
 
-/// The edit of a package touches the files that come to its number,
+/// The edit of a package touches exactly its file and the files that use it, directly or through other packages.
 pub fn laws_of_touched_numbers()
     ensures which { (count edited : ℕ) (command : List (List ℕ)) (numbers order : List ℕ)
         (position other : ℕ) → AreInOrder count command numbers order →
@@ -93,7 +93,7 @@ pub fn laws_of_touched_numbers()
         ordered_number numbers order position ≡ edited →
         is_touched (numbered_graph command unedited numbers order) position other
         ≡ comes_to count edited (ordered_number numbers order other) }
-    // which are so many.
+    // There are `touched_numbers` of them.
     ensures count { (count edited : ℕ) (command : List (List ℕ)) (numbers order : List ℕ)
         (position : ℕ) → AreInOrder count command numbers order → position < count + 1 →
         ordered_number numbers order position ≡ edited →

@@ -1,4 +1,4 @@
-//! The laws of what is said of the generated project, as functions with empty bodies.
+//! Laws of the counts in the answer for the generated project, as functions with empty bodies.
 
 ghost use Rattle.std.specs.Prelude.{◌≡◌, ℕ, true, List, length, Ok};
 ghost use Rattle.base.specs.declared.child.Request.{Request};
@@ -29,7 +29,7 @@ pub fn laws_of_counts()
         (ran : RanGenerated answer options reading changed (Ok said) events) →
         CompilesOnly read.graph (λ position. true) (length read.graph)
         (statuses_of (first_work options read.graph) ran.first) }
-    // The second build compiles the edited file and those that depend on it, and no others.
+    // The second build compiles exactly the edited file and its dependents.
     ensures second { (answer : Request → Exit) (options : GenerateOptions)
         (read again : ReadProject) (edited : ℕ) →
         MakesAll answer read.graph → MakesAll answer again.graph →
@@ -52,7 +52,7 @@ pub fn laws_of_counts()
         let records = first_records options read.graph ran.first in
         let work = second_work options records again.graph in
         HavePassed (runs_in again) (tests_of options again work ran.second) }
-    // These are the numbers that are said.
+    // The text has these counts, and the answer is `Done`.
     ensures said { (answer : Request → Exit) (options : GenerateOptions)
         (read again : ReadProject) (edited : ℕ) →
         MakesAll answer read.graph → MakesAll answer again.graph →

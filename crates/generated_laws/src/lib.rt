@@ -1,6 +1,5 @@
-//! Laws of what is read of the generated project. Nothing here runs.
-//! The numbers that are said of the generated project.
-//! Laws of what a clean build makes of the generated project. Nothing here runs.
+//! Laws of the generated project: what is read of it, what a clean build makes of it, and the counts in its answer. Nothing
+//! here runs.
 #![tactic(auto)]
 
 mod build_laws;

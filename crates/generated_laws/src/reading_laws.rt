@@ -14,8 +14,8 @@ ghost use Rattle.generated_sources.specs.NumberedFiles.{numbered_edges};
 ghost use Rattle.generated_sources.specs.ListedNumbers.{listed_numbers};
 ghost use Rattle.generated_laws.specs.ReadFiles.{found_links, read_graph, read_project, read_scans, read_texts};
 
-/// What is read of the generated project of each size, before and after its edit: its project, the graph of all files in
-/// compile order, and no warning. With tests these are what the benches of its scans give.
+/// What is read of the generated project of 1 to 4,095 packages, before and after its edit: its project, the graph of all
+/// files in compile order, and no warning. If the query wants tests, they are the tests that the scans of its files give.
 pub fn laws_of_readings()
     ensures graph { (scan : List ℕ → Finding) (count edited : ℕ) (patterns : List (List ℕ)) →
         IsScanner scan → 1 ≤ count → count ≤ 4095 →
