@@ -1,4 +1,4 @@
-//! The command that `clap` reads words by.
+//! The command by which `clap` reads the arguments.
 
 ghost use Rattle.std.specs.Prelude.{◌≡◌, false, codes, IfOk};
 ghost use Rattle.clap.specs.Words.{app_of, rule_of, with_rule};
@@ -40,7 +40,7 @@ fn option_with_number<'a>(alloc: Global, name: &'a str) -> Arg<'a>
     option_with_value(alloc, name).value_parser(ValueParser::Unsigned(1, u64::MAX))
 }
 
-/// The words that are no options.
+/// The patterns: the arguments that are not options. Without a pattern, `*` is assumed.
 fn patterns<'a>(alloc: Global) -> Arg<'a>
     ensures rule { rule_of result ≡ patterns }
     ensures plain { result.global ≡ false }
@@ -64,7 +64,7 @@ fn with<'a>(command: Command<'a>, arg: Arg<'a>) -> Result<Command<'a>, AllocErro
     command.arg(arg)
 }
 
-/// The options that say what is to be done, and how.
+/// Adds the options that choose what the program does, and how.
 fn with_modes<'a>(alloc: Global, command: Command<'a>) -> Result<Command<'a>, AllocError>
     ensures { IfOk result (λ r. app_of r ≡ with_modes (app_of command.entry)) }
 {
@@ -78,7 +78,7 @@ fn with_modes<'a>(alloc: Global, command: Command<'a>) -> Result<Command<'a>, Al
     Ok(command)
 }
 
-/// The number of threads, which is 1 where none is given.
+/// The number of threads; 1 if it is not given.
 fn threads<'a>(alloc: Global) -> Arg<'a>
     ensures rule { rule_of result ≡ threads }
     ensures plain { result.global ≡ false }
@@ -88,7 +88,7 @@ fn threads<'a>(alloc: Global) -> Arg<'a>
         .default_value("1")
 }
 
-/// The options that say what is written, and the others.
+/// Adds the options of the outputs, the other options, and the patterns.
 fn with_outputs<'a>(alloc: Global, command: Command<'a>) -> Result<Command<'a>, AllocError>
     ensures { IfOk result (λ r. app_of r ≡ with_outputs (app_of command.entry)) }
 {

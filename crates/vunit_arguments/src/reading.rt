@@ -1,4 +1,4 @@
-//! What words say.
+//! Reads the arguments.
 
 ghost use Rattle.std.specs.Prelude.{◌≡◌, ◌≢◌, ◌≤◌, [], map, option_map, unwrap_or, codes, IfOk};
 ghost use Rattle.clap.specs.Words.{all_of, first_of, found_of, kind_of, rows_of};
@@ -13,7 +13,7 @@ use clap::error::ErrorKind;
 use clap::{ArgMatches, Error};
 use std::alloc::Global;
 
-/// The words as text, unless one isn't UTF-8.
+/// The arguments as text, unless one is not UTF-8.
 fn arguments_of<'a>(alloc: Global, arguments: &'a [Text]) -> Result<Vec<&'a str>, ArgumentsFault>
     ensures { AreArguments (λ read. map (λ word. word.now) read.items) arguments.now result }
 {
@@ -77,7 +77,7 @@ fn number_in(matches: &ArgMatches, name: &str, other: u64) -> Option<u64>
     }
 }
 
-/// All values of the words that are no options.
+/// The values of `patterns`, if it has any.
 fn texts_in<'b, 'a>(matches: &'b ArgMatches<'a>) -> Option<&'b [&'a str]>
     ensures { option_map (λ texts. map (λ text. text.now) texts.now) result
         ≡ all_of (codes "patterns") (rows_of (found_of matches.now)) }
@@ -107,7 +107,7 @@ fn patterns_in(alloc: Global, matches: &ArgMatches) -> Result<TextList, NoMemory
     }
 }
 
-/// What is found says.
+/// The setting of the options that were found.
 fn setting_in(alloc: Global, matches: &ArgMatches) -> Result<Setting, ArgumentsFault>
     ensures read { ReadsArguments (setting_in (rows_of (found_of matches.now))) result }
     ensures some { IfOk result (λ setting. 1 ≤ setting.num_threads) }
@@ -148,8 +148,8 @@ fn fault_of(error: &Error) -> ArgumentsFault
     }
 }
 
-/// What the words of a command line say, without the program's name: exactly what `clap` reads of them by the options of
-/// the program; or that they are no command line.
+/// Reads the arguments of the program, without its name, exactly as `clap` reads them by the options of the program. Gives
+/// `Bad` if they are not a valid command line, and `NoMemory` if memory runs out.
 pub fn read_arguments(alloc: Global, arguments: &TextList) -> Result<Setting, ArgumentsFault>
     ensures read { ReadsArguments (setting_of arguments.now) result }
     ensures some { IfOk result (λ setting. 1 ≤ setting.num_threads) }

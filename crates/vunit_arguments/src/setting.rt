@@ -6,7 +6,7 @@ ghost use Rattle.vunit_arguments.specs.declared.setting.ArgumentsFault.TheVarian
 use base::{MaybeText, NoMemory, TextList};
 use std::alloc::{AllocError, AllocFailed};
 
-/// What the words say: each field is the option of its name.
+/// The options of a command line: each field is the option of its name.
 #[derive(Drop)]
 pub struct Setting {
     /// Lists the selected tests.
@@ -35,17 +35,17 @@ pub struct Setting {
     pub num_threads: u64,
     /// The file of the JSON export.
     pub export_json: MaybeText,
-    /// The size of a generated project; 0 where none is asked for.
+    /// The size of a generated project; 0 if none is asked for.
     pub generate: u64,
-    /// Which tests; the one pattern `*` where none is given.
+    /// Selects the tests; `*` alone if no pattern is given.
     pub patterns: TextList,
 }
 
-/// Why words say nothing.
+/// Why a command line cannot be read.
 #[derive(Clone, Copy, Debug, PartialEq, Eq)]
 pub enum ArgumentsFault {
     NoMemory,
-    /// The words are no command line of the program.
+    /// The arguments are not a valid command line of the program.
     Bad,
 }
 
