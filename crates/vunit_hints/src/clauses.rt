@@ -1,4 +1,4 @@
-//! What some words in a row name.
+//! Names in the tokens of a VHDL text.
 
 use crate::location_words::Word;
 use base::NoMemory;
@@ -12,7 +12,7 @@ pub struct Mention<'a> {
     pub at: usize,
 }
 
-/// The bytes of the token of an index; none where there is none.
+/// The bytes of the token at an index; empty after the last token.
 fn text_at(words: &[Word], i: usize) -> &[u8] {
     match words.get(i) {
         Some(word) => word.text.as_slice(),
@@ -157,7 +157,8 @@ fn own_name(unit: &[u8]) -> &[u8] {
     if name.is_empty() { library } else { name }
 }
 
-/// What stands before and after the first byte of a value; all, and nothing, where there is none.
+/// The parts of a text before and after the first byte of a value. Without such a byte they are the whole text and an empty
+/// one.
 fn parts_at(text: &[u8], byte: u8) -> (&[u8], &[u8]) {
     match text.iter().position(|other| *other == byte) {
         Some(at) => (

@@ -1,4 +1,4 @@
-//! What is said of the tests of a run.
+//! Lines about the tests of a run, and about what a child printed.
 
 use crate::line::{push_about, push_line};
 use base::NoMemory;
@@ -23,7 +23,7 @@ pub fn push_failed(
     Ok(())
 }
 
-/// Adds what had become of the tests of a run that ended at a fault. `planned` is how many there were, where that is known.
+/// Adds the counts of tests of a run that ended at a fault. `planned` is how many tests there were, if that is known.
 pub fn push_counts(
     alloc: Global,
     lines: &mut Vec<Vec<u8>>,

@@ -1,4 +1,4 @@
-//! Why words are no command line.
+//! Lines that say why a command line is not valid.
 
 use crate::line::{LineWriter, push_about, push_line};
 use crate::nearest_name;
@@ -7,7 +7,8 @@ use base::{NoMemory, Text, TextList};
 use std::alloc::Global;
 use vunit_arguments::{ArgumentsFault, read_arguments};
 
-/// Adds which word is wrong, and what was probably meant; or a line for each option, where that is wanted.
+/// Adds which argument is wrong, and which option was probably meant. If it is `--help` or `-h`, adds a line for each option
+/// instead.
 pub fn push_words(
     alloc: Global,
     lines: &mut Vec<Vec<u8>>,
@@ -35,7 +36,8 @@ fn push_help(alloc: Global, lines: &mut Vec<Vec<u8>>) -> Result<(), NoMemory> {
     Ok(())
 }
 
-/// The index of the first word that makes the words before and with it no command line, whatever follows.
+/// The index of the first wrong argument, if there is one. The arguments up to it, and it, are not a valid command line,
+/// alone or with the next one.
 fn wrong_word(alloc: Global, words: &[Text]) -> Result<Option<usize>, NoMemory> {
     let mut good = 0;
     let mut bad = words.len().saturating_add(1);
@@ -58,7 +60,8 @@ fn wrong_word(alloc: Global, words: &[Text]) -> Result<Option<usize>, NoMemory> 
     }
 }
 
-/// Whether so many words are a command line, or are with one more, which would be the value of the last.
+/// Whether the first `count` arguments are a valid command line, alone or with the next one, which may be the value of the
+/// last.
 fn can_go_on(alloc: Global, words: &[Text], count: usize) -> Result<bool, NoMemory> {
     if are_words(alloc, words, count)? {
         return Ok(true);
@@ -70,7 +73,7 @@ fn can_go_on(alloc: Global, words: &[Text], count: usize) -> Result<bool, NoMemo
     }
 }
 
-/// Whether the first words are a command line.
+/// Whether the first `count` arguments are a valid command line.
 fn are_words(alloc: Global, words: &[Text], count: usize) -> Result<bool, NoMemory> {
     let mut first = TextList::new(alloc);
     for word in words.iter().take(count) {
@@ -83,7 +86,7 @@ fn are_words(alloc: Global, words: &[Text], count: usize) -> Result<bool, NoMemo
     }
 }
 
-/// Adds what is wrong with a word.
+/// Adds why an argument is wrong.
 fn push_wrong(
     alloc: Global,
     lines: &mut Vec<Vec<u8>>,
@@ -112,7 +115,7 @@ fn push_wrong(
     line.finish(lines)
 }
 
-/// Adds what is wrong with an option that takes a value.
+/// Adds why an option that takes a value is wrong.
 fn push_valued(
     alloc: Global,
     lines: &mut Vec<Vec<u8>>,

@@ -14,7 +14,7 @@ pub enum TableKind {
     Root,
     Library,
     Depends,
-    /// Any other, of which no key is known.
+    /// Any other table. The program knows no key of it.
     Other,
 }
 
@@ -34,11 +34,11 @@ pub struct FoundKey {
 
 pub type KeyList = Vec<FoundKey>;
 
-/// Why the rest of a text isn't looked at.
+/// Why a walk ended before the end of the text.
 #[derive(Drop)]
 pub enum KeysEnd {
     NoMemory,
-    /// It is no TOML.
+    /// The text is not valid TOML.
     NotToml,
 }
 
@@ -76,7 +76,7 @@ struct Walk {
     depends: usize,
 }
 
-/// The keys of a text. Where it is no TOML, those before the fault.
+/// The keys of a text, up to the first fault if the walk finds that the text is not valid TOML.
 pub fn keys_of(alloc: Global, text: &str) -> Result<KeyList, NoMemory> {
     let mut walk = Walk {
         alloc,

@@ -32,8 +32,8 @@ pub struct UnknownKeys<'a> {
     pub more: usize,
 }
 
-/// The keys that aren't known, in their order, and of no more than so many what was meant. What stands in a table that isn't
-/// known is passed over with it.
+/// The first `most` unknown keys, in their order, each with the known key that was probably meant, and how many more there
+/// are. Keys in unknown tables are skipped.
 pub fn unknown_keys(
     alloc: Global,
     keys: &[FoundKey],

@@ -1,10 +1,10 @@
-//! The name that was probably meant.
-//! Where in a source the units and the references stand that a refusal is about. It goes by tokens alone, since a refusal
-//! that names a file and a unit is there already.
-//! What standard error is told once a run has ended, beside its output.
-//! Where the keys of a project file in TOML stand, and what is odd or wrong with them.
-//! What the sources of a project say beside the run over them: they are read once more, for warnings and for causes.
-//! The locations that a refusal of sources is about, which are read once more.
+//! Lines for standard error once a run has ended, beside its output:
+//!
+//! - The name that was probably meant.
+//! - The keys of a project file in TOML, with their locations; unknown keys and wrong values.
+//! - The locations of the units and references that a refusal is about. Tokens alone are enough to find them, since the
+//!   refusal has already named the file and the unit.
+//! - Warnings, and causes of refusals, for which the sources are read once more.
 #![tactic(auto)]
 
 mod clauses;

@@ -75,8 +75,8 @@ fn push_about_link(alloc: Global, lines: &mut Vec<Vec<u8>>, file: &[u8]) -> Resu
     line.finish(lines)
 }
 
-/// Walks the folders from one on, and gives the links to folders that it finds, and where they are wanted the files. It
-/// enters no link, and ends after so many names.
+/// Walks a folder and the folders below it. Gives the links to folders in them and, if `wants_files` is true, the files. It
+/// follows no link that it finds, and looks at no more than `limit` names.
 fn walk_links(
     rt: &HostRuntime,
     from: String,
@@ -100,7 +100,7 @@ fn walk_links(
     Ok(walk)
 }
 
-/// Takes the names of one folder. One that can't be read has none.
+/// Takes the names of one folder. A folder that can't be read counts as empty.
 fn walk_folder(
     rt: &HostRuntime,
     walk: &mut Walk,

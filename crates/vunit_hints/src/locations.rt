@@ -4,7 +4,7 @@ use crate::{Word, text_of, words_of};
 use base::{FileName, NoMemory};
 use system_files::{location_line, location_of};
 
-/// A source as it is now.
+/// The current text of a source file, and its tokens.
 #[derive(Drop)]
 pub struct Source {
     pub text: Vec<u8>,

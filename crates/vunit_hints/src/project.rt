@@ -1,4 +1,4 @@
-//! The project file, as it is now.
+//! The current text of the project file, and lines about its keys and values.
 
 use crate::texts::text_of;
 use crate::wrong::wrong_table;
@@ -93,7 +93,7 @@ impl ProjectText {
         Ok(format!(in alloc; ":{line}:{column}: ")?)
     }
 
-    /// The line that says where and why the text is no TOML.
+    /// The line that says where and why the text is not valid TOML, if it is not.
     pub fn fault_line(&self, alloc: Global) -> Result<Option<Vec<u8>>, NoMemory> {
         let Some(fault) = toml_fault(alloc, self.text.as_slice())? else {
             return Ok(None);
@@ -104,7 +104,7 @@ impl ProjectText {
         Ok(Some(line))
     }
 
-    /// The line that says where the value of a key stands that is wrong.
+    /// The line with the location of the wrong value of a key.
     pub fn value_line(&self, alloc: Global, name: &[u8]) -> Result<Option<Vec<u8>>, NoMemory> {
         let Ok(text) = str::from_utf8(self.text.as_slice()) else {
             return Ok(None);

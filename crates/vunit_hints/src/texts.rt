@@ -1,4 +1,4 @@
-//! Texts of files, as they are now.
+//! The current texts of files.
 
 use base::TEXT_LIMIT;
 use outside::ReadEnd;
@@ -8,7 +8,8 @@ use system_files::read_file;
 /// The bytes that one read takes at most.
 const CHUNK: usize = 65536;
 
-/// The text of a regular file. Another one, as a pipe, may keep a second reader waiting.
+/// The text of a regular file of at most `TEXT_LIMIT` bytes, if it can be read. Other files are not read: a pipe, for
+/// example, may keep a second reader waiting.
 pub fn text_of(rt: &HostRuntime, path: &[u8]) -> Option<Vec<u8>> {
     let name = str::from_utf8(path).ok()?;
     if !fs::metadata(rt, name).ok()?.is_file() {

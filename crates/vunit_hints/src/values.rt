@@ -1,4 +1,4 @@
-//! Why a project file is no TOML, and which of its values is wrong.
+//! Why a project file is not valid TOML, and which of its values is wrong.
 
 use crate::keys::{FoundKey, TableKind};
 use base::NoMemory;
@@ -7,14 +7,14 @@ use std::alloc::Global;
 /// The bytes of a value that are shown at most.
 const SHOWN_LIMIT: usize = 60;
 
-/// A fault of a text that is no TOML: the offset, and what the reader says.
+/// A fault of a text that is not valid TOML: its offset, and the message of the parser.
 #[derive(Drop)]
 pub struct TomlFault {
     pub at: usize,
     pub said: Vec<u8>,
 }
 
-/// Where and why a text is no TOML; nothing where it is.
+/// Where and why a text is not valid TOML; nothing if it is valid.
 pub fn toml_fault(alloc: Global, text: &[u8]) -> Result<Option<TomlFault>, NoMemory> {
     let error = match toml::table_from_slice(alloc, text) {
         Ok(_) => return Ok(None),
@@ -65,7 +65,7 @@ pub fn shown_value(text: &str, at: usize) -> &[u8] {
     cut_to(first_line(rest), SHOWN_LIMIT)
 }
 
-/// So many bytes at most.
+/// The first `most` bytes, or all if there are fewer.
 fn cut_to(bytes: &[u8], most: usize) -> &[u8] {
     if bytes.len() > most {
         &bytes[..most]

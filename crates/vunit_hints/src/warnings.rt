@@ -5,11 +5,11 @@ use base::NoMemory;
 use std::alloc::Global;
 use system_files::Unread;
 
-/// What is said where nothing was simulated.
+/// The warning if nothing was simulated.
 const NOT_SIMULATED: &[u8] =
     b"nothing is simulated: the simulator is the built-in one, which only reads comments";
 
-/// What is said where nothing was analysed.
+/// The warning if nothing was analysed.
 const NOT_ANALYSED: &[u8] =
     b"nothing is analysed: the compiler is the built-in one, which only looks for design units";
 

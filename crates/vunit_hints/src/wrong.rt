@@ -5,8 +5,8 @@ use base::{NoMemory, ProjectFault};
 use std::alloc::Global;
 use toml::{Table, Value};
 
-/// The number of the first table, counted from 1 among those of its name, whose value of a key as `library.files` the program
-/// doesn't take. 0 is given for a key of the file itself, and where there is none.
+/// The number of the first table with a value that the program refuses for a key, which is named as `library.files`. The
+/// tables of one name are numbered from 1. Gives 0 for a key of the file itself, and if no table has such a value.
 pub fn wrong_table(alloc: Global, text: &[u8], name: &str) -> Result<usize, NoMemory> {
     let Some((kind, own)) = name.split_once('.') else {
         return Ok(0);
