@@ -44,7 +44,7 @@ fn say_exit<O: Sink>(exit: &Exit, out: &mut O) -> Outcome
     }
 }
 
-/// Answers that an input is no request.
+/// Answers that the input is not a valid request.
 fn say_bad_request<O: Sink>(alloc: Global, out: &mut O) -> Outcome
     ensures answer { IsSaid result → result ≡ (exit_said bad_request).outcome }
     ensures said { O.tells →

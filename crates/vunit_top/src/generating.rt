@@ -1,4 +1,4 @@
-//! The mode that generates a project: what is done with it, and what is put.
+//! The mode that generates a project: its options, its run, and its result.
 
 ghost use Rattle.std.specs.Prelude.{◌≡◌, ◌≤◌, ◌<◌, ◌++◌, [], ℕ, List, Err, MatchOption, false};
 ghost use Rattle.outside.specs.FaultCounts.{RunFaultCounts, with_children, with_output};
@@ -19,7 +19,7 @@ use outside::{Procs, Sink};
 use std::alloc::Global;
 use vunit_arguments::Setting;
 
-/// How a setting says that a project is to be generated, if it does and no limit is passed.
+/// The options of the project that a setting generates, if it generates one within the limits.
 pub fn generated_by(setting: &Setting) -> Option<GenerateOptions>
     requires { 1 ≤ setting.now.num_threads }
     ensures { MatchOption result (generates (setting_task setting.now) ≡ false)
@@ -44,7 +44,7 @@ pub fn generated_by(setting: &Setting) -> Option<GenerateOptions>
     })
 }
 
-/// Puts what is said of a generated project, and answers.
+/// Puts the text for a generated project, and answers.
 fn put_generated<O: Sink>(said: GeneratedSaid, out: &mut O) -> Outcome
     requires { IsAnswer said.outcome }
     ensures answers { IsSaid result → result ≡ said.outcome }
@@ -59,7 +59,7 @@ fn put_generated<O: Sink>(said: GeneratedSaid, out: &mut O) -> Outcome
     say(text.bytes(), outcome, out)
 }
 
-/// Generates a project, builds it twice with one edit between, runs its tests, and puts what became of it.
+/// Generates a project, builds it twice with one edit between, runs its tests, and puts the result.
 pub fn say_generated<P: Procs, O: Sink>(
     alloc: Global,
     options: GenerateOptions,

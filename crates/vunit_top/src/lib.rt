@@ -1,4 +1,4 @@
-//! The top call: what the words and the sources say is read and done, and what became of it is put.
+//! The top call: reads the command line and the sources, does the task that they give, and puts the result.
 #![tactic(auto)]
 
 mod children;

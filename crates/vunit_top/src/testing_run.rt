@@ -1,4 +1,4 @@
-//! A run: a build, then the tests of what was built, and what is said of both.
+//! A run: a build, then the tests of what was built, and the answer and the text for both.
 
 ghost use Rattle.std.specs.Prelude.{◌≡◌, ◌≤◌, ◌++◌, [], ℕ, List, All, length, true, false, IfOk};
 ghost use Rattle.outside.specs.Disks.{added_since};
@@ -115,7 +115,7 @@ fn put_said<O: Sink, R: Reports>(
     }
 }
 
-/// Puts what is said of a build and of its tests, and writes their report.
+/// Puts the text of a build and of its tests, and then writes their report, if they have one and a path is given.
 fn say_tested<O: Sink, R: Reports>(
     alloc: Global,
     warnings: Text,
@@ -165,7 +165,7 @@ struct Planned {
     runs: TestRunList,
 }
 
-/// What a run needs of what was wanted of the sources and read of them.
+/// What a run with tests needs of the project that was read, for a query.
 fn plan_runs(alloc: Global, read: &ReadProject, query: &Query) -> Result<Planned, NoMemory>
     requires { IsReadProject query.now read.now }
     ensures warnings { IfOk result (λ planned.
@@ -180,7 +180,7 @@ fn plan_runs(alloc: Global, read: &ReadProject, query: &Query) -> Result<Planned
     Ok(Planned { warnings, runs })
 }
 
-/// Builds a graph over the records of a disk, runs tests over what was built, and says what became of both.
+/// Builds a graph over the records of a disk, runs tests over what was built, and puts the results of both.
 fn test_planned<D: Disk, P: Procs, O: Sink, R: Reports>(
     alloc: Global,
     planned: Planned,
@@ -247,8 +247,8 @@ fn test_planned<D: Disk, P: Procs, O: Sink, R: Reports>(
     }
 }
 
-/// Builds the files of a project over the records of a disk, runs the tests that patterns select over what was built, and
-/// says what became of both.
+/// Builds the files of a project over the records of a disk, and runs the tests that the patterns select over what was built.
+/// Puts the results of both.
 pub fn test_project<D: Disk, P: Procs, O: Sink, R: Reports>(
     alloc: Global,
     read: &ReadProject,

@@ -1,4 +1,4 @@
-//! The top call: reads words and sources, does what they say, and puts what became of it.
+//! The top call: reads the command line and the sources, does the task that they give, and puts the result.
 //!
 //! Each step calls the next:
 //!
@@ -6,7 +6,7 @@
 //! 2. `run_setting` settles the task.
 //! 3. `run_sources` reads the project.
 //! 4. `run_task` lists, exports, builds or tests.
-//! 5. `build_project` and `build_graph` build and say what became of it.
+//! 5. `build_project` and `build_graph` build, and put the statuses of the files.
 
 ghost use Rattle.std.specs.Prelude.{◌≡◌, ◌≤◌, ◌⊎◌, ◌++◌, [], ℕ, List, Option, Some, None, Ok, Err, false, IfOk};
 ghost use Rattle.outside.specs.Disks.{added_since};
@@ -52,7 +52,7 @@ use std::alloc::Global;
 use store::RequestStore;
 use vunit_arguments::{ArgumentsFault, Setting, read_arguments};
 
-/// Builds a graph over the records of a disk, and puts warnings and what became of its files.
+/// Builds a graph over the records of a disk, and puts warnings and the statuses of its files.
 fn build_graph<D: Disk, P: Procs, O: Sink>(
     alloc: Global,
     warnings: Text,
@@ -102,7 +102,7 @@ fn build_graph<D: Disk, P: Procs, O: Sink>(
     }
 }
 
-/// Builds the files of a project over the records of a disk, and puts its warnings and what became of its files.
+/// Builds the files of a project over the records of a disk, and puts its warnings and the statuses of its files.
 fn build_project<D: Disk, P: Procs, O: Sink>(
     alloc: Global,
     read: &ReadProject,
@@ -204,7 +204,7 @@ fn export_chosen<R: Reports>(
     }
 }
 
-/// Does with the sources that were read what is to be done.
+/// Does a task with the project that was read.
 fn run_task<D: Disk, P: Procs, O: Sink, R: Reports>(
     alloc: Global,
     task: Task,
@@ -293,7 +293,7 @@ fn say_stop<O: Sink>(alloc: Global, stop: ReadStop, out: &mut O) -> Outcome
     }
 }
 
-/// Reads the project in a tree, and does with it what is to be done.
+/// Reads the project in a tree, and does a task with it.
 fn run_sources<T: Tree, D: Disk, P: Procs, O: Sink, R: Reports>(
     alloc: Global,
     task: Task,
@@ -349,7 +349,7 @@ fn run_sources<T: Tree, D: Disk, P: Procs, O: Sink, R: Reports>(
     }
 }
 
-/// Does what a setting says that generates no project.
+/// Does the task of a setting that does not generate a project.
 fn run_setting<T: Tree, D: Disk, P: Procs, O: Sink, R: Reports>(
     alloc: Global,
     setting: Setting,
@@ -414,26 +414,33 @@ fn run_setting<T: Tree, D: Disk, P: Procs, O: Sink, R: Reports>(
     run_sources(alloc, task, tree, disk, procs, out, reports)
 }
 
-/// Runs the program: reads the words, and does what they and the sources say.
+/// Runs the program: reads the command line and the sources, and does the task that they give.
 ///
-/// The words are those of the command line without the program's name. Where the first is `child-analyse` the program is a
-/// child, the compiler that is part of it, and with `child-bench` the simulator. With `--files` the files of the project in
-/// the tree are put, in compile order; with `--list` the tests that one of the patterns matches; with `--export-json` both
-/// are written to a file as JSON. With `--compile` they are built in that order: of a file whose text, name, command and
-/// dependencies are those of its record on the disk nothing is started, and each other file is compiled, once, with as many
-/// children at once as `-p` says, until one is refused, or with `-k` also after it, but for the files that depend on a
-/// refused one; what a compiler gives is committed before the next start. With `--clean` no record counts, and the store is
-/// emptied before the first start. With none of these the files are built likewise, and where all are made the tests that
-/// one of the patterns matches are run over exactly them, with as many children at once; with `--fail-fast` none is started
-/// after one that didn't pass has ended. What became of both is put in one call, and after that, with `-x`, written to a file
-/// as JUnit XML. With `--minimal` the files that are listed or built are those alone that the tests need that one of the
-/// patterns matches.
+/// `words` are the arguments of the command line, without the program's name:
 ///
-/// With `--generate` none of this is done: a project of the size that the words say is made in memory, built over an empty
-/// disk in memory, edited, and built again with its tests, and how many files each build compiled is put.
+/// - `child-analyse` as the first argument: the program is a child, the built-in compiler.
+/// - `child-bench` as the first argument: the program is a child, the built-in simulator.
+/// - `--files`: puts the files of the project in the tree, in compile order.
+/// - `--list`: puts the tests that one of the patterns matches.
+/// - `--export-json`: writes these files and these tests to a file, as JSON.
+/// - `--compile`: builds the files in compile order.
+/// - `--generate`: builds and tests a generated project in memory, and does nothing else.
+/// - Otherwise builds the files. If all are made, runs the tests that one of the patterns matches, over exactly these files.
 ///
-/// From every object's answers the call answers what the clauses below say; where an object tells nothing, it is
-/// still safe, its answer still has its cause, and no child runs when it returns.
+/// A build starts nothing for a file whose text, name, command and dependencies are those of its record on the disk. It
+/// compiles each other file once, and commits what a compiler has made before the next start. After a refusal it compiles
+/// nothing more. With `-k` it goes on, except for the dependents of a refused file. With `--clean` no record counts, and the
+/// store is emptied before the first start. With `--minimal` only the files that the matching tests need are listed or built.
+///
+/// At most as many compilers, and then simulators, run at once as `-p` gives. With `--fail-fast` no test starts after a test
+/// has ended without passing. The results of the build and of the tests are put in one call. After that, with `-x`, the
+/// results of the tests, if they were run, are written to a file as JUnit XML.
+///
+/// With `--generate` a project of the given size is made in memory, built over an empty disk in memory, edited, and built
+/// again with its tests. How many files each build compiled is put.
+///
+/// The clauses below say what the call answers, by what each object answers. If an object tells nothing, the call is still
+/// safe, its answer still has its cause, and no child runs when it returns.
 pub fn run_vunit<I: Source, T: Tree, D: Disk, P: Procs, O: Sink, R: Reports>(
     alloc: Global,
     words: &TextList,
@@ -445,12 +452,12 @@ pub fn run_vunit<I: Source, T: Tree, D: Disk, P: Procs, O: Sink, R: Reports>(
     reports: &mut R,
 ) -> Outcome
     requires { P.running procs.old ≡ [] }
-    // What it did and said, by what words and sources say, where the sources are told that the words ask for.
+    // What it did and said, by the arguments and the sources, if the tree tells all that the arguments need of it.
     ensures did { (scan : List ℕ → Finding) → IsScanner scan →
         Did (call_of I.Source T.Tree D.Disk P.Procs O.Sink R.Reports
         input.old tree.old disk.old procs.old out.old reports.old
         input.new tree.new disk.new procs.new out.new reports.new) scan words.now result }
-    // What it leaves as it is, by words alone, whatever is told.
+    // What it leaves unchanged, by the arguments alone, whether or not the objects tell.
     ensures keeps { Keeps (call_of I.Source T.Tree D.Disk P.Procs O.Sink R.Reports
         input.old tree.old disk.old procs.old out.old reports.old
         input.new tree.new disk.new procs.new out.new reports.new) words.now result }
