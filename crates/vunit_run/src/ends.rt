@@ -70,7 +70,7 @@ fn fault_line(which: OutsideObject) -> &'static [u8] {
     }
 }
 
-/// The lines after a run: the cause of a fault or the location of a refusal, and what else is known of its end.
+/// The lines after a run: the cause of a fault or the location of a refusal, and hints about how the run ended.
 pub fn lines_after(
     rt: &HostRuntime,
     words: &TextList,
@@ -86,7 +86,8 @@ pub fn lines_after(
     end_lines(rt, words, setting, outcome, cause, outside)
 }
 
-/// The lines, after that of a fault. Where there is no memory for one, it and those after it are left out, but for the last.
+/// All lines, from that of the cause on. If memory runs out for a line, it and the following ones are left out, except for
+/// the last, about records that can't be read.
 fn end_lines(
     rt: &HostRuntime,
     words: &TextList,
@@ -164,7 +165,8 @@ fn push_all(
     }
 }
 
-/// Adds what is known of a fault, and what had become of the tests.
+/// Adds details of a fault: what the child of a failed start had printed, or which process has locked the store. For a run
+/// with tests, also adds their counts.
 fn push_fault(
     rt: &HostRuntime,
     lines: &mut Vec<Vec<u8>>,
@@ -190,7 +192,7 @@ fn push_fault(
     }
 }
 
-/// Adds which process has locked the store, where another one has.
+/// Adds which other process has locked the store, if one has.
 fn push_holder(rt: &HostRuntime, lines: &mut Vec<Vec<u8>>) -> Result<(), NoMemory> {
     let Some(process) = lock_holder(rt, LOCKED_FILE) else {
         return Ok(());
@@ -199,7 +201,7 @@ fn push_holder(rt: &HostRuntime, lines: &mut Vec<Vec<u8>>) -> Result<(), NoMemor
     push_line(rt.alloc(), lines, text.as_bytes())
 }
 
-/// Adds what is known of a refusal of the project file or of sources.
+/// Adds details of a refusal of the project file or of sources: why a pattern matches nothing, locations, and unknown keys.
 fn push_refusal(
     rt: &HostRuntime,
     lines: &mut Vec<Vec<u8>>,
@@ -245,7 +247,7 @@ fn push_warnings(
     push_patterns(rt, lines, setting, mode)
 }
 
-/// Adds which tools are only those that are built in.
+/// Adds a warning if the compiler is the built-in one, and one if the simulator was.
 fn push_tools(
     rt: &HostRuntime,
     lines: &mut Vec<Vec<u8>>,
@@ -285,7 +287,7 @@ fn push_patterns(
     }
 }
 
-/// Whether each of the patterns matches whatever there is.
+/// Whether each of the patterns is `*`.
 fn are_all(patterns: &TextList) -> bool {
     patterns
         .as_slice()

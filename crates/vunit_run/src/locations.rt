@@ -10,8 +10,8 @@ use vunit_hints::{project_text, text_of};
 /// The project file whose lines can be bad.
 const LINES_FILE: &[u8] = b"vunit.csv";
 
-/// The line of a refusal that is about a location in a file. There is none where the file can't be read any more, or is too
-/// short for the location by now.
+/// The line of a refusal that is about a location in a file. It is left out if the file can't be read any more, or is now too
+/// short for the location.
 pub fn refusal_location(rt: &HostRuntime, refusal: &Refusal) -> Option<Vec<u8>> {
     match refusal {
         Refusal::Lex { file, fault } => {
@@ -59,7 +59,7 @@ fn unit_offset(fault: &UnitFault) -> u32 {
     }
 }
 
-/// The location of an offset in a file as it is now.
+/// The location of an offset in the current text of a file, if the file can be read and is long enough.
 fn location_at(rt: &HostRuntime, path: &[u8], at: u32) -> Option<Location> {
     let text = text_of(rt, path)?;
     let at = at as usize;

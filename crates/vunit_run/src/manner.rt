@@ -1,11 +1,11 @@
-//! How standard error is told of a run while it goes on.
+//! How standard error shows a run while it goes on.
 
 use std::env;
 use std::io::IsTerminal;
 use system_children::Manner;
 use vunit_arguments::Setting;
 
-/// How standard error is told: whether it is a terminal, and whether the words want it quiet.
+/// How standard error shows a run: whether it is a terminal, and whether the options ask for quiet.
 pub fn manner(rt: &HostRuntime, setting: &Option<Setting>) -> Manner {
     let is_quiet = match setting {
         Some(setting) => setting.quiet,

@@ -8,8 +8,8 @@ use std::env;
 use std::env::{Env, FillError};
 use std::io::ErrorKind;
 
-/// The arguments of the program but the first. That one is the path that the program was started by: it is no word, and may
-/// have any bytes.
+/// The arguments of the program without the first. The first is the path that the program was started by, and may have any
+/// bytes.
 #[derive(Clone, Copy)]
 struct Arguments {
     rt: HostRuntime,
