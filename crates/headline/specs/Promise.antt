@@ -36,9 +36,9 @@ abbrev pub work_in : (List ℕ → Finding) → Sources → ProgramRun → DiskS
 work_in scan sources run first = work_over records_in_image (order_in (reading scan run.words sources)) first
 
 -- Each compiler is asked what a clean build of the sources asks it, and each test starts over the libraries that this clean build
--- gives. A run that has ended, and that no refusal halted, started exactly the files that differ from their record. Where it
--- is done, or its tests failed, each file is made. Else its answer names the files that the compiler refused, if it refused any, or it
--- names the fault, or it is out of memory.
+-- gives. A run that has ended, and that no refusal halted, started exactly the files that differ from their record. If it is done,
+-- or its tests failed, each file is made. If a file was refused, an answer that is neither a fault nor out of memory names exactly
+-- the refused files.
 pub record KeepsPromise (scan : List ℕ → Finding) (compiler : Request → Exit) (sources : Sources) (run : ProgramRun) (first : DiskState) : Type 0 where
   pub right : IsRight (world_of scan compiler) sources run first
   pub started : HasEnded run.outcome → NoRefusalHalts (work_in scan sources run first) run.events → (position : ℕ) →

@@ -20,12 +20,12 @@ pub trait Between<T: Tree, D: Disk, P: Procs> {
     /// The moments of the disk as the last answer left them: the next run begins there.
     ghost last: { Self → Moments };
 
-    /// Whether the last answer gave no words.
+    /// Whether the last answer gave no arguments.
     ghost ended: { Self → Bool };
 
-    /// Gives the words of the next run, or none where no more is run. Any file of the project may change. The disk is left
-    /// as it is, or as a kill or a loss of power at some moment of the last run leaves it. No child runs. The compiler stays the same
-    /// function of its requests; simulators may answer anything from then on.
+    /// Gives the arguments of the next run, or none if there is no next run. Any file of the project may change. The disk is
+    /// unchanged, or is what a kill or a loss of power at some moment of the last run leaves. No child runs. The compiler
+    /// stays the same function of its requests; simulators may answer anything from then on.
     fn next(
         &mut self,
         outcome: &Outcome,
@@ -44,7 +44,7 @@ pub trait Between<T: Tree, D: Disk, P: Procs> {
         ensures ended { ended self.new ≡ not (is_some result) };
 }
 
-/// Runs the program once, and lets happen what follows.
+/// Runs the program once, and then calls `next` of `between`.
 fn run_then<I: Source, T: Tree, D: Disk, P: Procs, O: Sink, R: Reports, B: Between<T, D, P>>(
     alloc: Global,
     words: &TextList,
@@ -79,12 +79,12 @@ fn run_then<I: Source, T: Tree, D: Disk, P: Procs, O: Sink, R: Reports, B: Betwe
     between.next(&outcome, tree, disk, procs)
 }
 
-/// Runs the program with these words, and then again with the words that come between two runs, until there are none, and at
-/// most so many times, and gives how many runs there were. Between two runs any file may change, and the program may have been stopped inside the last run, by a kill
-/// or a loss of power.
+/// Runs the program with these arguments, and then again with the arguments that `between` gives. It ends when `between`
+/// gives none, or after `limit` runs, and gives the number of runs. Between two runs any file may change. The program may
+/// also have been stopped inside the last run, by a kill or a loss of power.
 ///
-/// What happened is one history from the first state of the project to the last. From a disk of true records, as an empty
-/// one is, each run of it keeps the promise of the program.
+/// What happened is one history from the first state of the project to the last. If the first disk has only true records, as
+/// an empty one has, each run keeps the promise of the program.
 pub fn run_all<I: Source, T: Tree, D: Disk, P: Procs, O: Sink, R: Reports, B: Between<T, D, P>>(
     alloc: Global,
     first: TextList,
@@ -102,7 +102,7 @@ pub fn run_all<I: Source, T: Tree, D: Disk, P: Procs, O: Sink, R: Reports, B: Be
     requires begun { B.ended between.old ≡ false }
     ensures running { P.running procs.new ≡ [] }
     ensures compiler { IsCompilerOf (P.answer procs.old) (P.answer procs.new) }
-    // All runs are made that were asked for, until there are no words.
+    // The runs end at the limit, or when `between` gives no arguments.
     ensures all { (result ≡ limit) ⊎ (B.ended between.new ≡ true) }
     ensures ran { (scan : List ℕ → Finding) → IsScanner scan → T.tells → D.tells → P.tells →
         (compiler : Request → Exit) → IsCompilerOf compiler (P.answer procs.old) →

@@ -25,8 +25,8 @@ pub struct Outcomes {
     pub second: Outcome,
 }
 
-/// Runs the program twice with the same words over the same objects. What is said of both is so of all words but those that
-/// generate a project, whose builds are over a disk of their own.
+/// Runs the program twice with the same arguments over the same objects. The clause `ran` leaves out arguments that generate
+/// a project, since its builds are over a disk in memory.
 pub fn run_twice<I: Source, T: Tree, D: Disk, P: Procs, O: Sink, R: Reports>(
     alloc: Global,
     words: &TextList,
@@ -56,8 +56,8 @@ pub fn run_twice<I: Source, T: Tree, D: Disk, P: Procs, O: Sink, R: Reports>(
     Outcomes { first, second }
 }
 
-/// Runs the program over a disk, and then with the same words and sources over another disk, which may be what a stop of
-/// the first run has left. Of words that generate a project nothing more is said.
+/// Runs the program over a disk, and then with the same arguments and sources over another disk, which may be what a stop of
+/// the first run has left. The clause `ran` leaves out arguments that generate a project.
 pub fn run_after_stop<I: Source, T: Tree, D: Disk, E: Disk, P: Procs, O: Sink, R: Reports>(
     alloc: Global,
     words: &TextList,

@@ -14,9 +14,9 @@ use std::alloc::Global;
 use vhdl_spec::some_scanner;
 use vunit_top::run_vunit;
 
-/// Runs the program. Where its words generate a project, of whatever size these may say, and its children answer as its own
-/// compiler and simulator do, all is done and the four lines of that size are put, unless memory runs out or something outside
-/// fails.
+/// Runs the program. Suppose that its arguments generate a project, and that its children answer as the built-in compiler and
+/// simulator do. Then the answer is `Done` and the four lines for the size of the project are put, unless memory runs out or
+/// something outside fails.
 pub fn generate_project<I: Source, T: Tree, D: Disk, P: Procs, O: Sink, R: Reports>(
     alloc: Global,
     words: &TextList,

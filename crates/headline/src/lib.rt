@@ -1,7 +1,8 @@
-//! That the requests which stand for true records of views are true records.
-//! Laws of what is said of the generated project of each size. Nothing here runs.
-//! What one run of the program promises is enough for the next one: callers of the top call that are proved from its
-//! contract alone.
+//! What one run of the program promises is enough for the next one: callers of the top call that are proved from its contract
+//! alone.
+//!
+//! Laws, which do not run: requests that stand for true records of views are true records; histories of runs; the answer and
+//! the text for the generated project of each size.
 #![tactic(auto)]
 
 mod all_runs;

@@ -12,9 +12,9 @@ ghost use Rattle.vunit_top.specs.Runs.{world_of};
 
 /// What holds of every history of runs of the program, edits of the sources, and stops.
 pub fn laws_of_program()
-    // From an empty disk, whose store holds no record, each run is right with its tests: whatever a stop can leave has true
-    // records alone, each start of a compiler asks for its file what a clean build of its sources asks for it, and each start of
-    // a test, also in a run that is stopped, is over the libraries of that clean build.
+    // From an empty disk, whose store holds no record, each run is right with its tests. Whatever a stop can leave has only
+    // true records. Each start of a compiler sends the request that a clean build of the sources sends for this file. Each
+    // start of a test, also in a run that is stopped, is over the libraries of that clean build.
     ensures from_empty { (scan : List ℕ → Finding) (compiler : Request → Exit) (sources : Sources)
         (steps : List HistoryStep) →
         IsHistory (world_of scan compiler) sources (settled_disk empty_image) steps →

@@ -1,4 +1,4 @@
-//! Laws of what is said of the generated project of each size, as functions with empty bodies.
+//! Laws of the answer and the text for the generated project of each size, as functions with empty bodies.
 
 ghost use Rattle.std.specs.Prelude.{◌≡◌, ◌<◌, ◌≤◌, ◌^◌, ℕ, List, Ok};
 ghost use Rattle.base.specs.declared.child.Event.{Event};
@@ -25,9 +25,8 @@ pub fn laws_of_made_numbers()
         MakesNumbered count listed_command made_artefact answer }
 {}
 
-/// Where the children of a run that generates a project of up to 4,095 packages are the compiler and the simulator that
-/// are part of the program, and no fault ends it, the four lines are said, with these numbers, and the answer is that all
-/// is done.
+/// Laws of runs that generate a project of up to 4,095 packages, with the built-in compiler and simulator as children. If no
+/// fault ends the run, it puts the four lines with these numbers, and the answer is `Done`.
 pub fn laws_of_generated_projects<O: Sink>()
     // By what both builds and the tests did,
     ensures said { (scan : List ℕ → Finding) (answer : Request → Exit) (options : GenerateOptions)
