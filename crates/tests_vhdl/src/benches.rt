@@ -64,8 +64,8 @@ fn push_number(out: &mut Vec<u8>, number: u32) -> Result<(), Fail> {
     Ok(())
 }
 
-/// A bench as `l.e(a)`, a `w` where it calls no case and an `s` for one simulation, and each case after a `/`, with the
-/// file, the offset and the length of what names it where these are asked for.
+/// Adds a bench as `l.e(a)`, then `w` if it calls no case and `s` if all its cases run in one simulation. Each case
+/// follows after a `/`. With `indices`, the file, the offset and the length of what names it follow.
 fn push_bench(out: &mut Vec<u8>, bench: &Bench, indices: bool) -> Result<(), Fail> {
     out.extend_from_slice(bench.library.bytes())?;
     out.push(b'.')?;
@@ -239,7 +239,7 @@ l%entity \t u\ is generic (runner_cfg : t); end;#l%architecture a of \t u\ is be
 l%$#l%architecture a of e is begin x <= run("a""b"); y <= run("c"); end; => l.e(a)/a"b 1 39 4/c 1 57 1
 "#;
 
-/// A bench that calls so many cases, with names of three bytes each.
+/// A bench that calls `count` cases, each with a name of three bytes.
 fn many_calls(alloc: Global, count: u32) -> Result<Text, Fail> {
     let mut text = Vec::new(alloc);
     text.extend_from_slice(ENTITY.as_bytes())?;

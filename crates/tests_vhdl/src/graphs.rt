@@ -11,8 +11,8 @@ use std::alloc::Global;
 use std::process::Abort;
 use std::test::Fail;
 
-/// A line for each project: a word for each file, of its own letter and those of the files that it depends on itself;
-/// and after `=` a word for each file in the order, of its own letter and those of all that it depends on.
+/// A line for each project. Before `=` stands a word for each file: its own letter and those of its direct dependencies.
+/// After `=` stands a word for each file in compile order: its own letter and those of all its dependencies.
 static ROWS: &[u8] = b"ac bac c =c ac bca 
 a bac c =a c bac 
 ab bc cd de e =e de ced bedc aedcb 
@@ -23,7 +23,7 @@ ab b c d e =b ab c d e
 /// The files of all rows; a row has the first of them.
 static FILES: &[u8] = b"lib,a\nlib,b\nlib,c\nlib,d\nlib,e\n";
 
-/// The graph of a project with these edges; nothing where it has none.
+/// The graph of a project with these edges, or `None` if the texts or edges don't fit it or `order` fails.
 fn graph_over(
     alloc: Global,
     project: &Project,
@@ -84,7 +84,7 @@ fn text_of_graph(alloc: Global, graph: &Graph) -> Result<Vec<u8>, NoMemory> {
     Ok(out)
 }
 
-/// So many texts.
+/// A list of `count` equal texts.
 fn texts_of(alloc: Global, count: u64) -> Result<TextList, NoMemory> {
     let mut texts = TextList::new(alloc);
     for _file in 0..count {
@@ -93,7 +93,7 @@ fn texts_of(alloc: Global, count: u64) -> Result<TextList, NoMemory> {
     Ok(texts)
 }
 
-/// The graph of a row has these words.
+/// Whether the graph of a row has these words.
 fn is_graph(alloc: Global, edges: &Edges, wanted: &[u8]) -> Result<bool, NoMemory> {
     let texts = texts_of(alloc, edges.len())?;
     let end = edges.len().min(5) as usize * 6;
@@ -106,7 +106,7 @@ fn is_graph(alloc: Global, edges: &Edges, wanted: &[u8]) -> Result<bool, NoMemor
     }
 }
 
-/// Reads the rows letter by letter, and counts those whose graph is as it says.
+/// Reads the rows letter by letter, and counts the rows that have the wanted graph.
 fn rows_right(alloc: Global) -> Result<u32, NoMemory> {
     let mut count = 0u32;
     let mut edges = Edges::new(alloc);

@@ -17,7 +17,7 @@ fn project_of(alloc: Global, files: &[u8]) -> Result<(Project, TextList), Fail> 
     Ok((project_with(alloc, list), texts))
 }
 
-/// The libraries that the rows name, and some that none of them does, rising by bytes.
+/// The libraries that the rows name, and some that no row names, in ascending byte order.
 static LIBRARIES: &[&str] = &[
     "\\X\\", "a", "b", "c", "d", "e", "f", "g", "h", "i", "j", "k", "l", "lib", "m", "n", "other",
     "q", "std", "work", "x",
@@ -136,7 +136,7 @@ fn projects(rt: HostRuntime) -> Result<(), Fail> {
     Ok(())
 }
 
-/// Contexts in a ring: each has a library of its own, and refers to the one so many indices after it.
+/// A ring of `count` contexts: each has a library of its own and refers to the context `step` positions after it.
 fn ring_of(alloc: Global, count: u32, step: u32) -> Result<(Project, TextList), Fail>
     requires { 0 < count }
 {
@@ -151,7 +151,7 @@ fn ring_of(alloc: Global, count: u32, step: u32) -> Result<(Project, TextList), 
     Ok((project_with(alloc, list), texts))
 }
 
-/// One of so many contexts that each have a library of their own, and refer to all.
+/// Context `i` of `count`: it has a library of its own and refers to all contexts.
 fn knot(alloc: Global, count: u32, i: u32) -> Result<Text, Fail> {
     let mut text = Vec::new(alloc);
     let begin = format!(in alloc; "context c{i} is library l{i}, lib; context lib.c0")?;
@@ -164,7 +164,7 @@ fn knot(alloc: Global, count: u32, i: u32) -> Result<Text, Fail> {
     Ok(Text::from_vec(text))
 }
 
-/// So many such contexts.
+/// A project of `count` contexts that each refer to all.
 fn net_of(alloc: Global, count: u32) -> Result<(Project, TextList), Fail> {
     let mut list = Items::new(alloc);
     let mut texts = TextList::new(alloc);
@@ -204,7 +204,7 @@ fn count_seen(alloc: Global, sets: &VisibleLibraries, count: u32) -> Result<u64,
     Ok(seen)
 }
 
-/// The same of a project of so many files.
+/// The same for a project of `count` files.
 fn first_sees(alloc: Global, project: &Project, texts: &TextList, count: u32) -> Result<u64, Fail> {
     if !are_small(texts) || texts.len() != project.files.len() || project.files.is_empty() {
         return Err(Fail::from("small files"));
@@ -214,8 +214,8 @@ fn first_sees(alloc: Global, project: &Project, texts: &TextList, count: u32) ->
     count_seen(alloc, &sets, count)
 }
 
-/// Rings, by the number of their contexts and the step from each to the next, and contexts that each refer to all, which
-/// have the step 0; and how many libraries the first of them sees.
+/// The number of contexts, the step, and how many libraries the first context sees. With step 0 each context refers to
+/// all; with another step the contexts are a ring, and each refers to the context that many positions after it.
 static HOSTILE: &[(u32, u32, u64)] = &[
     // each context's own library, `work` and `std`
     (64, 1, 66),
@@ -225,7 +225,7 @@ static HOSTILE: &[(u32, u32, u64)] = &[
     (40, 0, 43),
 ];
 
-/// How many libraries the first one sees of so many contexts with this step.
+/// How many libraries the first of `count` contexts sees with this step.
 fn seen_of(alloc: Global, count: u32, step: u32) -> Result<u64, Fail> {
     let (project, texts) = hostile_of(alloc, count, step)?;
     first_sees(alloc, &project, &texts, count)

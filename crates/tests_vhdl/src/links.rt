@@ -1,4 +1,4 @@
-//! Small projects, with what their files depend on, or what is wrong, written out by hand.
+//! Small projects, with the dependencies of their files or the fault, written out by hand.
 
 ghost use Rattle.std.specs.Prelude.{◌≡◌, ◌≤◌, length};
 ghost use Rattle.std.specs.List.{All};

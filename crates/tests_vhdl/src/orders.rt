@@ -21,7 +21,7 @@ abd b cd d =bdac
 ab bc cd de e =edcba
 ";
 
-/// What is to be given, or was: an order or a cycle.
+/// An answer, wanted or found: an order or a cycle.
 #[derive(Drop)]
 struct Answer {
     is_cycle: bool,
@@ -53,7 +53,7 @@ fn answer_of(alloc: Global, edges: &Edges) -> Result<Option<Answer>, NoMemory> {
     }
 }
 
-/// What is given is what is wanted.
+/// Whether the answer for these edges is the wanted one.
 fn is_answer(alloc: Global, edges: &Edges, wanted: &Answer) -> Result<bool, NoMemory> {
     match answer_of(alloc, edges)? {
         Some(found) => Ok(
@@ -63,7 +63,7 @@ fn is_answer(alloc: Global, edges: &Edges, wanted: &Answer) -> Result<bool, NoMe
     }
 }
 
-/// Reads the rows letter by letter, and counts those that are answered.
+/// Reads the rows letter by letter, and counts the rows that have the wanted answer.
 fn rows_answered(alloc: Global) -> Result<u32, NoMemory> {
     let mut count = 0u32;
     let mut edges = Edges::new(alloc);
@@ -205,7 +205,7 @@ fn random_masks(seed: u32) -> [u32; 8] {
     masks
 }
 
-/// The numbers of random projects of which the answer is that of the plain program, and of those with a cycle.
+/// How many of `rows` random projects have the same answer as by the plain program, and how many have a cycle.
 fn random_answered(alloc: Global, rows: u32) -> Result<(u32, u32), NoMemory> {
     let mut count = 0u32;
     let mut cycles = 0u32;

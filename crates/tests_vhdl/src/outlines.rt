@@ -75,7 +75,7 @@ fn count_units(alloc: Global, text: &[u8]) -> Result<Vec<u8>, Fail> {
     }
 }
 
-/// Whether of the text of a row is found what stands there.
+/// Whether the text of a row has the outline or the fault that the row wants.
 fn is_right(alloc: Global, row: &[u8]) -> Result<bool, Fail> {
     let (text, wanted) = halves(row);
     let text = expand_lines(alloc, text)?;
@@ -224,7 +224,7 @@ static LARGE: &[u8] = b"
 1*entity e is end; architecture a of e is begin ~100000*g: if true generate ~100000*end generate; ~1*end;^2 units
 ";
 
-/// Whether of the parts of a row so many units are found.
+/// Whether the text that the parts of a row give has the wanted number of units, or the wanted fault.
 fn counts(alloc: Global, row: &[u8]) -> Result<bool, Fail> {
     let (parts, wanted) = halves(row);
     let text = repeat_parts(alloc, parts)?;

@@ -190,7 +190,7 @@ fn push_word(name: &mut Vec<u8>, number: u32) -> Result<(), NoMemory> {
     Ok(())
 }
 
-/// A bench `l.t` with so many cases, and a pattern for the name of each.
+/// A bench `l.t` with `count` cases, and a pattern for the name of each.
 fn many_cases(alloc: Global, count: u32) -> Result<(Tests, PatternList), NoMemory> {
     let mut words = Vec::new(alloc);
     let mut patterns = PatternList::new(alloc);

@@ -13,7 +13,7 @@ use vhdl_lex::{no_tokens, scan_with_roles};
 use vhdl_outline::{NamedRef, find_refs, library_names, unresolved_refs};
 use vhdl_units::outline;
 
-/// What is asked of a unit.
+/// What a table lists for each unit.
 #[derive(Clone, Copy, Drop)]
 enum Asked {
     Refs,
@@ -63,14 +63,14 @@ fn push_refs(alloc: Global, refs: &RefList, out: &mut Vec<u8>) -> Result<(), Fai
     Ok(())
 }
 
-/// Adds what stands at a token, as it is written.
+/// Adds the source text of a token.
 fn push_token(text: &[u8], token: &Token, out: &mut Vec<u8>) -> Result<(), Fail> {
     let name = text.get(token.start as usize..token.end as usize);
     out.extend_from_slice(name.unwrap_or(b"?"))?;
     Ok(())
 }
 
-/// Names, as they are written, with a comma after each.
+/// Adds the source text of names, with a comma after each.
 fn push_tokens(text: &[u8], tokens: &TokenList, out: &mut Vec<u8>) -> Result<(), Fail> {
     for token in tokens.as_slice() {
         push_token(text, token, out)?;
@@ -79,7 +79,7 @@ fn push_tokens(text: &[u8], tokens: &TokenList, out: &mut Vec<u8>) -> Result<(),
     Ok(())
 }
 
-/// Each reference as `L.U`, as it is written, with a `!` where it is strict, and its token number.
+/// Each reference as `L.U` in its source text, with a `!` if it is strict, and its token number.
 fn push_named(
     alloc: Global,
     text: &[u8],
@@ -137,7 +137,7 @@ fn push_asked(
     Ok(())
 }
 
-/// What is asked of each unit of a text, with a bar after each.
+/// The answer for each unit of a text, with a bar after each.
 fn text_of_refs(alloc: Global, text: &[u8], asked: Asked) -> Result<Vec<u8>, Fail> {
     if text.len() > 4_194_304 {
         return Err(Fail::from("a text within the limit"));
@@ -157,7 +157,7 @@ fn text_of_refs(alloc: Global, text: &[u8], asked: Asked) -> Result<Vec<u8>, Fai
     Ok(out)
 }
 
-/// Whether of the text of a row is found what stands there.
+/// Whether the text of a row has the answer that the row wants.
 fn is_right(alloc: Global, asked: Asked, row: &[u8]) -> Result<bool, Fail> {
     let (text, wanted) = halves(row);
     let text = expand_lines(alloc, text)?;
@@ -377,7 +377,7 @@ static LARGE: &[u8] = b"
 1*package p is ~40000*component c is end component;~1*end;^0 0 0 40000|
 ";
 
-/// Whether of the parts of a row so many are found.
+/// Whether the text that the parts of a row give has the wanted counts.
 fn counts(alloc: Global, row: &[u8]) -> Result<bool, Fail> {
     let (parts, wanted) = halves(row);
     let text = repeat_parts(alloc, parts)?;
