@@ -6,9 +6,9 @@ use std::alloc::Global;
 use std::test::Fail;
 use testbench_runs::{BenchJob, TestRun};
 
-/// A row a line, with `|` between two parts: the library, the bench, and the cases with `;` between two; `w` where the
-/// bench names none itself and `s` where all run in one simulation; the path; and what is wanted: the name of the
-/// folder, and the values of `enabled_test_cases` and `tb path`.
+/// One row per line, with `|` between its parts: the library, the bench, the cases with `;` between two, the mode and the
+/// path. The mode is `w` for a bench that names no case itself, and `s` if all cases run in one simulation. The wanted
+/// values follow: the name of the folder, `enabled_test_cases` and `tb path`.
 static RUNS: &str = "\
 tb_lib|tb_x|b,c||tb/tb_x.vhd|tb_lib.tb_x.b=2cc|b,,,,c|tb/
 lib|t|one||tb.vhd|lib.t.one|one|

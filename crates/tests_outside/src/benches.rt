@@ -71,7 +71,7 @@ fn put_text(out: &mut Vec<u8>, bytes: &[u8]) -> Result<(), NoMemory> {
     Ok(())
 }
 
-/// How many parts bytes have between marks; none where there are no bytes.
+/// How many parts the bytes have between bars; 0 for no bytes.
 fn count_of(bytes: &[u8]) -> usize {
     if bytes.is_empty() {
         return 0;

@@ -47,7 +47,7 @@ fn use_side(disk: &mut FileDisk, side: Side) -> Result<[u8; 4], DiskFailed> {
     Ok(bytes)
 }
 
-/// What is left of a file that was used.
+/// Whether a disk in this folder is empty, then reads what was written to side B, and in the end has 2 bytes there.
 fn use_disk(rt: &HostRuntime, folder: &str) -> Result<bool, Fail> {
     let mut disk = FileDisk::new(rt.alloc(), *rt, folder)?;
     if lengths(&mut disk)? != (0, 0) {
@@ -96,7 +96,7 @@ fn opens(rt: &HostRuntime, folder: &str) -> Result<bool, Fail> {
     Ok(disk.len(Side::A).is_ok())
 }
 
-/// Puts something that is no regular file of its own at the name of a side.
+/// Puts a folder, a symbolic link or a hard link at the name of side A, or nothing. Side B is an empty regular file.
 fn spoil(rt: &HostRuntime, folder: &str, how: &str) -> Result<(), Fail> {
     let a = at(rt.alloc(), folder, "store_a")?;
     let b = at(rt.alloc(), folder, "store_b")?;
@@ -111,7 +111,7 @@ fn spoil(rt: &HostRuntime, folder: &str, how: &str) -> Result<(), Fail> {
     Ok(())
 }
 
-/// Whether a disk opens over a folder that was spoilt so.
+/// Whether a disk opens over a folder after `spoil`.
 fn opens_over(rt: &HostRuntime, how: &str) -> Result<bool, Fail> {
     let path = new_folder(rt, how)?;
     spoil(rt, path.as_str(), how)?;

@@ -97,7 +97,7 @@ fn build_files(alloc: Global, files: &[u8]) -> Result<Built, Fail> {
     Ok(built)
 }
 
-/// What is asked of a compiler for a text over some files.
+/// The input of the compile request for a text over built files.
 fn request_of(alloc: Global, text: Text, built: &Built) -> Result<Text, Fail> {
     let name = file_name(alloc, b"lib", b"a.vhd")?;
     let entry = Entry {
@@ -142,7 +142,7 @@ fn files_are_answered(rt: HostRuntime) -> Result<(), Fail> {
     Ok(())
 }
 
-/// A text of one comment, whose script line has so many bytes.
+/// A text of one comment, whose script line has `count` bytes.
 fn script_of(alloc: Global, count: usize) -> Result<Text, NoMemory> {
     let mut text = Vec::from_slice(alloc, b"-- child: ")?;
     for _ in 0..count {

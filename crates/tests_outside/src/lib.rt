@@ -1,7 +1,7 @@
 //! Tests of sets, tables and bytes, which know nothing of the program.
 //! Tests of the disk, the tree, the children and the reading below them, and of reports, over real files and real programs.
-//! Tests of the children that are part of the program, and of what they are asked.
-//! Tests of the texts that are said of a run.
+//! Tests of the children that are part of the program, and of their requests.
+//! Tests of the texts that the program prints and the reports that it writes about a run.
 #![tactic(auto)]
 
 #[cfg(test)]

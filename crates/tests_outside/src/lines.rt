@@ -8,7 +8,7 @@ use std::io::Read;
 use std::test::Fail;
 use system_files::{Buffered, IoFault, take_line, take_rest};
 
-/// A reader that gives at most so many bytes at a time, and counts the reads.
+/// A reader that gives at most `most` bytes at a time, and counts the reads.
 #[derive(Drop)]
 struct Portions<'a> {
     bytes: &'a [u8],
@@ -92,7 +92,7 @@ fn what_follows_a_line_is_left(rt: HostRuntime) -> Result<(), Fail> {
     Ok(())
 }
 
-/// So many empty lines.
+/// The bytes of `count` empty lines.
 fn empty_lines(alloc: Global, count: usize) -> Result<Vec<u8>, NoMemory> {
     let mut bytes = Vec::new(alloc);
     for _ in 0..count {

@@ -151,7 +151,7 @@ fn cases_are_in_order(rt: HostRuntime) -> Result<(), Fail> {
 static ESCAPES: &str =
     "0 \\u0000\n1 \\u0001\n2 \\u0002\n3 \\u0003\n4 \\u0004\n5 \\u0005\n6 \\u0006\n7 \\u0007\n8 \\b\n9 \\t\n10 \\n\n11 \\u000b\n12 \\f\n13 \\r\n14 \\u000e\n15 \\u000f\n16 \\u0010\n17 \\u0011\n18 \\u0012\n19 \\u0013\n20 \\u0014\n21 \\u0015\n22 \\u0016\n23 \\u0017\n24 \\u0018\n25 \\u0019\n26 \\u001a\n27 \\u001b\n28 \\u001c\n29 \\u001d\n30 \\u001e\n31 \\u001f\n34 \\\"\n92 \\\\";
 
-/// What is written for a byte that is a whole name. What isn't ASCII is no UTF-8 by itself.
+/// The wanted JSON text for a name of one byte. A byte that isn't ASCII is not valid UTF-8 by itself, and becomes U+FFFD.
 fn text_of_list(alloc: Global, byte: u8) -> Result<Text, NoMemory> {
     if byte >= 128 {
         return Text::from_slice(alloc, b"\xef\xbf\xbd");

@@ -1,4 +1,4 @@
-//! What is said of an empty build and of the tests that followed it.
+//! The text and the report of an empty build and of the tests that followed it.
 
 ghost use Rattle.std.specs.Prelude.{◌≡◌, length};
 
@@ -18,7 +18,7 @@ static WORDS: TestWords = TestWords {
     report: true,
 };
 
-/// The tests, where any followed: one that has failed.
+/// One failed test if `any` is true; else `None`.
 fn tests_of(alloc: Global, any: bool) -> Result<Option<TestEnd>, NoMemory> {
     if any {
         Ok(Some(ends_of(alloc, ",lib.t.a=f")?))
@@ -27,7 +27,7 @@ fn tests_of(alloc: Global, any: bool) -> Result<Option<TestEnd>, NoMemory> {
     }
 }
 
-/// What is said of a build of no file after a warning.
+/// The text and the report of a build without files, after a warning.
 fn said_over(
     alloc: Global,
     graph: &Graph,

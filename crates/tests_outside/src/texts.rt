@@ -158,13 +158,13 @@ fn refusal(alloc: Global, kind: u8, word: &[u8]) -> Result<Refusal, NoMemory> {
     }
 }
 
-/// What is said of a refusal. This function alone makes the call.
+/// The text of a refusal. Only this function calls `refusal_text`.
 fn text_of_outcome(alloc: Global, kind: u8, word: &[u8]) -> Result<Text, NoMemory> {
     let refusal = refusal(alloc, kind, word)?;
     refusal_text(alloc, &refusal)
 }
 
-/// Whether of a refusal is said what its line says.
+/// Whether a refusal has the text of its line.
 fn says(alloc: Global, line: &str) -> Result<bool, NoMemory> {
     match line.split_once('|') {
         Some((kind, wanted)) => {
@@ -181,7 +181,7 @@ fn says(alloc: Global, line: &str) -> Result<bool, NoMemory> {
     }
 }
 
-/// A digit for each fault of a project file, a word in it, and what is said.
+/// A digit for each fault of a project file, a word in it, and its text.
 static FAULTS: &str = "1|vunit_run: vunit.toml isn't TOML/\n\
     2library.name|vunit_run: vunit.toml: no key library.name/\n\
     3compiler|vunit_run: vunit.toml: wrong value of compiler/\n\
@@ -200,7 +200,7 @@ fn faults_of_project_files_are_said(rt: HostRuntime) -> Result<(), Fail> {
     Ok(())
 }
 
-/// A letter for each fault of benches, a name in it, and what is said.
+/// A letter for each fault of benches, a name in it, and its text.
 static TEST_FAULTS: &str = "Tlib.tb_a|vunit_run: bench lib.tb_a has two architectures/\n\
     Nlib.tb_a|vunit_run: bench lib.tb_a has no architecture/\n\
     Dlib.tb_a.one|vunit_run: test lib.tb_a.one stands twice/\n\
@@ -214,7 +214,7 @@ fn faults_of_benches_are_said(rt: HostRuntime) -> Result<(), Fail> {
     Ok(())
 }
 
-/// A letter for each refusal of a file or of units, and what is said.
+/// A letter for each refusal of a file or of units, and its text.
 static LINK_FAULTS: &str = "a|vunit_run: lib, a.vhd is absent/\n\
     l|vunit_run: lib, b.vhd: unclosed string at 17/\n\
     d|vunit_run: lib.e(rtl) stands in lib, a.vhd and lib, b.vhd/\n\

@@ -7,10 +7,13 @@ use std::alloc::Global;
 use std::test::Fail;
 use testbench_runs::{RunEnd, RunList, TestEnd, TestRun, TestRunList, Verdict, VerdictList};
 
-/// A row a line: the words, of which `v` is verbose, `q` is quiet, `0` is that failed tests are no matter, and `-` is nothing;
-/// the runs with a stroke between two, each as what it printed and its cases with a comma between two, each case as its full
-/// name, `=` and the letter of its verdict (`n` for none); what is put; and the answer, `d` for done and `t` for tests that
-/// failed. `~` is a line feed.
+/// One row per line, with `|` between its parts: the options, the runs, the wanted text and the wanted outcome. `~` stands for a
+/// line feed.
+///
+/// - Options: `v` for verbose, `q` for quiet, `0` for an outcome that ignores failed tests, `-` for none.
+/// - Runs: a `/` between two, and in each run commas between its output and its cases. A case is its full name, `=` and the letter
+///   of its verdict, or `n` without a verdict.
+/// - Outcome: `d` for done, `t` for failed tests.
 static ENDS: &str = "\
 -||No tests were run!~|d
 vq||No tests were run!~|d
@@ -47,8 +50,8 @@ q|one~,lib.t.a=p/two~,lib.t.b=f/three~,lib.u.all=s|pass lib.t.a~fail lib.t.b~ski
 -|,t.a=p,t.b=n|pass t.a~==== Summary~pass 1 of 1~fail 0 of 1~skip 0 of 1~All passed!~|d
 ";
 
-/// A row a line: the runs with a stroke between two, each as its library, its bench, the letters of its verdicts and its cases
-/// with a comma between two, where `*` is a bench that names no case itself; and what is written. `~` is a line feed.
+/// One row per line: the runs with a `/` between two, and after a `|` the wanted XML. `~` stands for a line feed. A run is its
+/// library, its bench, the letters of its verdicts and its cases, with commas between them; `*` is a bench that names no case itself.
 static RUNS: &str = "\
 |<?xml version=\"1.0\" encoding=\"utf-8\"?>~<testsuite name=\"testsuite\" tests=\"0\" failures=\"0\" skipped=\"0\" errors=\"0\">~</testsuite>~
 lib,t,pfs,a,b,c|<?xml version=\"1.0\" encoding=\"utf-8\"?>~<testsuite name=\"testsuite\" tests=\"3\" failures=\"1\" skipped=\"1\" errors=\"0\">~  <testcase classname=\"lib.t\" name=\"a\"/>~  <testcase classname=\"lib.t\" name=\"b\">~    <failure message=\"Failed\"/>~  </testcase>~  <testcase classname=\"lib.t\" name=\"c\">~    <skipped/>~  </testcase>~</testsuite>~
@@ -175,7 +178,7 @@ fn verdicts_of(alloc: Global, run: &str) -> Result<VerdictList, NoMemory> {
     Ok(verdicts)
 }
 
-/// What became of a run.
+/// The end of a run that a row gives: its case names, verdicts and output.
 fn end_of(alloc: Global, run: &str) -> Result<RunEnd, NoMemory> {
     let names = names_of(alloc, run)?;
     let verdicts = verdicts_of(alloc, run)?;
@@ -283,7 +286,7 @@ fn run_in(alloc: Global, run: &str) -> Result<TestRun, NoMemory> {
     )
 }
 
-/// What became of it, by the letters of its verdicts.
+/// The end of a run with the verdicts of a row, and without names and output.
 fn end_in(alloc: Global, run: &str) -> Result<RunEnd, NoMemory> {
     let mut verdicts = VerdictList::new(alloc);
     for letter in part(run, ',', 2).as_bytes() {
@@ -394,7 +397,7 @@ fn names_are_values(rt: HostRuntime) -> Result<(), Fail> {
     Ok(())
 }
 
-/// Bytes that are no UTF-8 stay as they are.
+/// Bytes that aren't UTF-8, and control characters, are copied unchanged.
 #[test]
 fn other_bytes_are_kept(rt: HostRuntime) -> Result<(), Fail> {
     assert!(rt; is_value(rt.alloc(), b"\x80\xbe\xbf\xff", b"\x80\xbe\xbf\xff")?);
@@ -404,14 +407,14 @@ fn other_bytes_are_kept(rt: HostRuntime) -> Result<(), Fail> {
     Ok(())
 }
 
-/// So many bytes, and one byte more.
+/// The byte `x`, repeated `bytes` times, and the byte `last`.
 fn fill_bytes(alloc: Global, bytes: usize, last: u8) -> Result<Vec<u8>, NoMemory> {
     let mut out = vec![in alloc; b'x'; bytes]?;
     out.push(last)?;
     Ok(out)
 }
 
-/// A failed run that printed these.
+/// A failed run with these bytes as its output.
 fn long_end(alloc: Global, bytes: usize, last: u8) -> Result<RunEnd, NoMemory> {
     let names = names_of(alloc, ",lib.t.a=f")?;
     let verdicts = verdicts_of(alloc, ",lib.t.a=f")?;
@@ -429,13 +432,13 @@ fn long_ends(alloc: Global, bytes: usize, last: u8) -> Result<TestEnd, NoMemory>
     Ok(TestEnd { runs })
 }
 
-/// What is put of it.
+/// The text that is printed for this run.
 fn long_said(alloc: Global, bytes: usize, last: u8) -> Result<Text, NoMemory> {
     let end = long_ends(alloc, bytes, last)?;
     test_text(alloc, &end, false, false)
 }
 
-/// What is to be put where so many bytes are shown.
+/// The wanted text if `shown` bytes of the output are printed.
 fn cut_text(alloc: Global, shown: usize) -> Result<Vec<u8>, NoMemory> {
     let mut out = fill_bytes(alloc, shown, b'\n')?;
     out.extend_from_slice(
@@ -444,7 +447,7 @@ fn cut_text(alloc: Global, shown: usize) -> Result<Vec<u8>, NoMemory> {
     Ok(out)
 }
 
-/// Whether so many bytes, and then a last one, are put as so many bytes and a line feed.
+/// Whether of an output of `bytes` bytes and the byte `last`, `shown` bytes and a line feed are printed.
 fn is_cut(alloc: Global, bytes: usize, last: u8, shown: usize) -> Result<bool, NoMemory> {
     let text = long_said(alloc, bytes, last)?;
     let wanted = cut_text(alloc, shown)?;
