@@ -17,8 +17,9 @@ use std::alloc::Global;
 use vhdl_graph::link;
 use vhdl_scope::visible_sets;
 
-/// What was told of a project: whether there is a graph, and then how many files it has and how many of them its last file
-/// depends on; or whether files depend on each other in a cycle. Where neither is so, nothing is told.
+/// The result for a project. If `whole` is true, there is a graph: `files` is how many files it has, and `deps` how many of
+/// them its last file depends on. If `cyclic` is true, files depend on each other in a cycle. If both are false, there is
+/// no answer.
 #[derive(Clone, Copy)]
 #[repr(C)]
 pub struct Graphed {
@@ -45,7 +46,7 @@ fn last_deps(graph: &Graph) -> u64
     }
 }
 
-/// What is told of a project by what its files depend on.
+/// The result for a project whose files have these dependencies.
 fn told_in_order(
     alloc: Global,
     project: &Project,
@@ -78,7 +79,7 @@ fn told_in_order(
     }
 }
 
-/// What is told of a project by the units of its texts.
+/// The result for a project, whose dependencies are found by the units of its texts.
 fn told_of_texts(alloc: Global, project: &Project, texts: TextList) -> Result<Graphed, NothingTold>
     requires project { IsProject project.now }
     requires texts { FitTexts project.now.files texts }
@@ -103,7 +104,7 @@ pub struct Sources {
     pub texts: TextList,
 }
 
-/// The project that a project file says, whose files are the parts of a text.
+/// The project that a project file lists, with the parts of one text as the texts of its files.
 pub fn sources_of(
     alloc: Global,
     csv: &[u8],
@@ -126,7 +127,7 @@ pub fn sources_of(
     Ok(Sources { project, texts })
 }
 
-/// What is told of a project.
+/// The result for a project that is handed over as a project file and one text, with the offsets where its files end.
 pub fn told_of(
     alloc: Global,
     csv: &[u8],

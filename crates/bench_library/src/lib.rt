@@ -20,8 +20,8 @@ use vhdl_lex::{no_tokens, scan_with_roles};
 use vhdl_outline::find_refs;
 use vhdl_units::outline;
 
-/// What a scan found: whether the text has a cut, and then how many tokens and line comments it has; or whether it has
-/// a fault. Where neither is so, there was no memory.
+/// The result of a scan. If `whole` is true, the text was cut into tokens and line comments, and they are counted. If
+/// `faulty` is true, it has a lexical fault. If both are false, memory ran out.
 #[derive(Clone, Copy)]
 #[repr(C)]
 pub struct Scanned {
@@ -31,8 +31,8 @@ pub struct Scanned {
     pub comments: u64,
 }
 
-/// What a scan and the outline of its tokens found: whether the text has an outline, and then how many units it has; or
-/// whether it has a fault, lexical or of the unit grammar. Where neither is so, there was no memory.
+/// The result of a scan and the outline of its tokens. If `whole` is true, the text has an outline, and `units` is how many
+/// units it has. If `faulty` is true, it has a lexical fault or one of the unit grammar. If both are false, memory ran out.
 #[derive(Clone, Copy)]
 #[repr(C)]
 pub struct Outlined {
@@ -41,9 +41,9 @@ pub struct Outlined {
     pub units: u64,
 }
 
-/// What a scan, the outline of its tokens and the references of its units found: whether the text has an outline, and then
-/// how many references its units have together, modulo 2^64; or whether it has a fault, lexical or of the unit grammar.
-/// Where neither is so, there was no memory.
+/// The result of a scan, the outline of its tokens and the references of its units. If `whole` is true, the text has an
+/// outline, and `refs` is how many references its units have together, modulo 2^64. If `faulty` is true, it has a lexical
+/// fault or one of the unit grammar. If both are false, memory ran out.
 #[derive(Clone, Copy)]
 #[repr(C)]
 pub struct Referred {
@@ -116,7 +116,7 @@ fn count_refs(alloc: Global, text: &[u8], scan: &Scan, roles: &RoleList) -> Resu
     Ok(count)
 }
 
-/// Nothing is known, for want of memory.
+/// The result when memory ran out.
 fn unknown() -> Referred
     ensures { result ≡ record { whole = false; faulty = false; refs = 0 } }
 {
@@ -127,7 +127,7 @@ fn unknown() -> Referred
     }
 }
 
-/// There is a fault.
+/// The result for a text with a fault.
 fn fault_found() -> Referred
     ensures { result ≡ record { whole = false; faulty = true; refs = 0 } }
 {
@@ -192,7 +192,7 @@ pub extern "C" fn bench_refs(alloc: Global, text: &[u8], out: &mut Referred)
     *out = refer_text(alloc, text);
 }
 
-/// What was told of a project: whether all went well, and whether its first unit sees a library.
+/// The result for a project: whether there is an answer, and whether its first unit sees a library.
 #[derive(Clone, Copy)]
 #[repr(C)]
 pub struct Seen {
@@ -201,8 +201,8 @@ pub struct Seen {
 }
 
 /// Scans and outlines each file of a project, which is one text with the places where its files end, all of library `l`,
-/// and keeps what later passes ask of it. Nothing is told where the places don't rise within the text, where a file is
-/// longer than 4,194,304 bytes or has a fault, or where there was no memory. C declares it as
+/// and keeps what later passes ask of it. There is no answer if the places don't rise within the text, if a file is longer
+/// than 4,194,304 bytes or has a fault, or if memory ran out. C declares it as
 /// `void bench_files(const uint8_t *text, size_t length, const size_t *ends, size_t count, struct seen *out)`.
 #[unsafe(no_mangle)]
 pub extern "C" fn bench_files(alloc: Global, text: &[u8], ends: &[usize], out: &mut Seen)
@@ -215,7 +215,7 @@ pub extern "C" fn bench_files(alloc: Global, text: &[u8], ends: &[usize], out: &
     *out = Seen { whole, sees: false };
 }
 
-/// The same, and the visible libraries of all units; it tells whether the first unit of the first file sees a library. C declares it as
+/// The same, and the visible libraries of all units. It answers whether the first unit of the first file sees a library. C declares it as
 /// `void bench_scopes(const uint8_t *text, size_t length, const size_t *ends, size_t count, const uint8_t *library,
 /// size_t library_length, struct seen *out)`.
 #[unsafe(no_mangle)]
@@ -235,7 +235,7 @@ pub extern "C" fn bench_scopes(
     *out = Seen { whole, sees };
 }
 
-/// What was told of a project's sources: whether there are some, and then how many files.
+/// The result for the sources of a project: whether they could be read, and if so, how many files they have.
 #[derive(Clone, Copy)]
 #[repr(C)]
 pub struct Sourced {
@@ -264,9 +264,15 @@ pub extern "C" fn bench_sources(
 }
 
 /// Scans and outlines the files of a project, and puts them into a graph by their references. The project is a project file
-/// of at most 2,147,483,647 bytes, which lists its files, and one text with the places where they end. Nothing is told
-/// where the places don't rise within the text, where there are more files than a graph has, where a name or a text is too
-/// long, where a file has a fault or its names can't be linked, or where there was no memory. C declares it as
+/// of at most 2,147,483,647 bytes, which lists its files, and one text with the places where they end. There is no answer:
+///
+/// - if the project file is too long or has a fault, or its files aren't as many as the places;
+/// - if the places don't rise within the text;
+/// - if there are more files than a graph has, or a name or a text is too long;
+/// - if a file has a fault or its names can't be linked;
+/// - if memory ran out.
+///
+/// C declares it as
 /// `void bench_graph(const uint8_t *csv, size_t csv_length, const uint8_t *text, size_t length, const size_t *ends,
 /// size_t count, struct graphed *out)`.
 #[unsafe(no_mangle)]

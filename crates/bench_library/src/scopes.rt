@@ -16,8 +16,8 @@ use vhdl_outline::Outlines;
 use vhdl_scope::visible_sets;
 use vhdl_units::outline;
 
-/// Nothing is told of a project: its ends don't rise within the text, a file is too long or has a fault, or there was no
-/// memory.
+/// There is no answer for a project. Its project file has a fault, its ends don't rise within the text, a limit is exceeded,
+/// a file has a fault, its names can't be linked, or memory ran out.
 #[derive(Clone, Copy)]
 pub struct NothingTold;
 
@@ -111,7 +111,7 @@ fn file_of(alloc: Global) -> Result<ProjectFile, NoMemory>
     })
 }
 
-/// So many files of the library.
+/// A list of `count` files of the library.
 fn files_of(alloc: Global, count: u64) -> Result<Items<ProjectFile>, NoMemory>
     ensures each { IfOk result (λ files. length files ≡ count) }
     ensures library { IfOk result (All (λ file. file.name.library ≡ codes "l")) }
