@@ -22,10 +22,10 @@ pub(super) fn disk_of(alloc: Global, failing: &[u64], bytes: &[u8]) -> Result<Me
     Ok(disk)
 }
 
-/// How many bytes a payload has that is to have a side compacted: more than 1,048,576.
+/// The length of a dead payload that causes the compaction of its side: more than 1,048,576 bytes.
 const DEAD_COUNT: u32 = 1_048_600;
 
-/// A side with one more payload before all others, which stands for no record: its first byte is none of a form of a payload.
+/// A side with one more payload before all others. It stands for no record, since no form of a payload begins with its first byte.
 fn with_dead_bytes(alloc: Global, side: &[u8]) -> Result<Vec<u8>, NoMemory> {
     let head = side.len().min(18);
     let mut bytes = Vec::from_slice(alloc, &side[..head])?;
@@ -97,7 +97,7 @@ fn keep_first<D: Disk>(
     keep(alloc, store, disk, graph, 0, &artefact)
 }
 
-/// The one byte of a text, or a dot where it has none.
+/// The byte of a text of one byte, a dot for an empty text, and `?` for a longer one.
 pub(super) fn first_letter(text: &[u8]) -> u8 {
     match text {
         [] => b'.',
@@ -204,7 +204,7 @@ fn keep_some<D: Disk>(
     keep_second(alloc, store, disk, graph)
 }
 
-/// What is done to the store of a disk, once it is opened. A disk that is full of dead bytes is compacted as it is opened.
+/// A change to the store of a disk. A disk that is full of dead bytes is compacted when it is opened.
 #[derive(Clone, Copy)]
 pub(super) enum Change {
     Opens,

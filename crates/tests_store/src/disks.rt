@@ -7,9 +7,9 @@ use std::test::Fail;
 
 const LONG: u64 = (1 << 63) - 1;
 
-/// What is done to side A, one step a line: `w` writes bytes at an offset, `c` cuts to no bytes, `s` syncs; then the offset,
-/// 0 for the others; `!` where the step fails, and the bytes. Here a write of `abcd` and a sync, which are the calls 0 and 1;
-/// then a write of `XYZ` over the third byte, and a sync.
+/// Steps for side A, one per line: the kind, the offset, `!` if the step fails (else a blank), and the bytes. `w` writes the
+/// bytes at the offset, `c` cuts the side to no bytes, `s` syncs it; the last two have the offset 0. Here `abcd` is written and
+/// synced, which are the calls 0 and 1. Then `XYZ` is written from the third byte on, and synced.
 static TORN: &str = "w0 abcd\ns0 \nw2 XYZ\ns0 \n";
 
 /// What a stop can leave, one image a line: a moment, a length (`L` is the longest), a fill (`F` is 255), and side A, where a

@@ -179,7 +179,7 @@ fn a_stop_or_fault_inside_a_change_leaves_either_list(rt: HostRuntime) -> Result
     Ok(())
 }
 
-/// Whether opening leaves these sides as they are.
+/// Whether opening leaves these sides unchanged.
 fn stays_on(alloc: Global, disk: &mut MemDisk, a: &[u8], b: &[u8]) -> Result<bool, StoreFault> {
     write_durably(disk, Side::A, 0, a)?;
     write_durably(disk, Side::B, 0, b)?;
@@ -201,7 +201,7 @@ fn opening_a_healthy_disk_writes_nothing(rt: HostRuntime) -> Result<(), Fail> {
     Ok(())
 }
 
-/// Whether emptying a disk of these sides leaves them so.
+/// Whether emptying a disk with `sides` leaves `left`.
 fn empties_on(
     alloc: Global,
     disk: &mut MemDisk,
@@ -228,7 +228,7 @@ fn an_emptied_disk_has_the_side_that_counted_or_a(rt: HostRuntime) -> Result<(),
     Ok(())
 }
 
-/// Whether side A of an image of a moment begins with what was there before the commit.
+/// Whether side A of an image of a moment begins with `EMPTY`, its bytes before the commit.
 fn begins_empty(alloc: Global, disk: &MemDisk, moment: u64, length: u64) -> Result<bool, NoMemory> {
     let image = disk.crash(alloc, moment, length, 37)?;
     Ok(image.reads(Side::A).starts_with(&EMPTY))

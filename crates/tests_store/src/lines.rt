@@ -6,9 +6,9 @@ use outside::{LineEnd, Source, SourceFault, TakeEnd};
 use std::alloc::Global;
 use std::test::Fail;
 
-/// On each line an input after a colon, a limit, and what calls give one after the other: `=` and a line, `long` or `end`
-/// of a `take_line` of at most so many bytes, `+` and the bytes of a `take`. In these `/` is a line feed and `~` a
-/// carriage return.
+/// One row per line: an input after a colon, a limit, and the wanted results of successive calls. A `take_line` with this
+/// limit gives `=` and a line, `long` or `end`; a `take` gives `+` and the rest. In inputs and results `/` stands for a line
+/// feed and `~` for a carriage return.
 static ROWS: &str = "\
 : 9 end end +
 :/ 9 = end

@@ -8,8 +8,9 @@ use store::LoadedStore;
 use store_journal::Ready;
 use tests_graphs::{Record, read_record};
 
-/// The graph of `a.vhd` and of `b.vhd` over it, both of `lib`, with the words `cc` and the text `x`, as a record of a view;
-/// and where the texts and the words of the second file are.
+/// The bytes of a record whose view is a graph: `a.vhd`, and `b.vhd` which depends on it. Both are of `lib`, with the
+/// command `cc` and the text `x`. The constants below are indices in these bytes: of both texts, and of the last letter of
+/// the second file's command.
 const VIEW: [u8; 82] = [
     2, 0, 0, 0, //
     3, 0, 0, 0, b'l', b'i', b'b', 5, 0, 0, 0, b'a', b'.', b'v', b'h', b'd', //
@@ -46,7 +47,7 @@ fn letter(artefact: Option<&[u8]>) -> u8 {
     }
 }
 
-/// Of both files `f` where the latest record fits, and else `s`; and then the artefacts that are borrowed.
+/// For each of the two files `f` if its latest record is current, else `s`; and then both borrowed artefacts.
 fn letters(alloc: Global, held: &LoadedStore<'_>, graph: &Graph) -> Result<[u8; 4], NoMemory> {
     let handles = held.handles(alloc, graph)?;
     if graph.len() != 2 {

@@ -1,11 +1,11 @@
-//! Tests of what no clause says: that a node is tested.
+//! Tests of what no contract promises: that `NodeCheck` refuses a node with too long a text.
 
 use base::{FileName, Items, NoMemory, Text, TextList};
 use std::alloc::Global;
 use std::test::Fail;
 use store_form_2::{NodeCheck, NodeTable, Row};
 
-/// Whether a node without dependencies fits that has a text of so many bytes and a path of this one byte.
+/// Whether `NodeCheck` accepts a node without dependencies, with a text of `own` bytes and a path of this one byte.
 fn is_node_current(alloc: Global, path: u8, own: usize) -> Result<bool, NoMemory> {
     let mut table = NodeTable::new(alloc);
     let name = table.add_name(FileName {

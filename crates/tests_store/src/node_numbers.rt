@@ -1,4 +1,4 @@
-//! Tests of what no clause says: that names and commands are numbered.
+//! Tests of what no contract promises: that equal names and equal commands get one number.
 
 use base::{FileName, NoMemory, Text, TextList};
 use std::alloc::Global;
@@ -48,7 +48,7 @@ fn command_once(alloc: Global, table: &mut NodeTable) -> Result<bool, NoMemory> 
     adds_once(alloc, table, &words)
 }
 
-/// What is tried.
+/// What a test numbers.
 #[derive(Clone, Copy)]
 enum Tried {
     Names,
@@ -62,7 +62,7 @@ fn goes(alloc: Global, table: &mut NodeTable, tried: Tried) -> Result<bool, NoMe
     }
 }
 
-/// Whether what is tried goes as it is to. This function alone owns a table.
+/// Whether a new table numbers these as it should. Only this function owns a table.
 fn goes_so(alloc: Global, tried: Tried) -> Result<bool, NoMemory> {
     let mut table = NodeTable::new(alloc);
     goes(alloc, &mut table, tried)

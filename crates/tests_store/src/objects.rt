@@ -65,7 +65,7 @@ fn tree(rt: &impl Abort, alloc: Global) -> Result<MemTree, NoMemory> {
     Ok(MemTree::new(alloc, files, numbers(alloc, &[4])?))
 }
 
-/// A limit, and what a listing of at most so many paths gives: of each path the first 15 bytes, and a space.
+/// A limit and a star, and the result of listing at most that many paths: the first 15 bytes of each path, and a space.
 static LISTINGS: &str = "5* a.vhd nnnnnnnnnnnnnnn src.vhd src/b.vhd vunit_outer/q \n4* too many\n";
 
 /// The first 15 bytes of each text, with a space after them.
@@ -221,12 +221,12 @@ fn script(
     Ok(ScriptProcs::new(alloc, answers, picks, numbers(alloc, failing)?))
 }
 
-/// Steps, one a line: a start of a word of one letter, or a wait (`-`); the ticket that it gives; and what came of it: `s`
-/// for a start, `x` for a start that failed or a child that was lost, else the code of the exit, where `n` is 127. Here
-/// the picks are 2 and 3.
+/// Steps, one per line: the step, its ticket and its outcome. A letter starts the command of that letter, and `-` waits. The
+/// outcome is `s` for a start, `x` for a failed start or a lost child, and else the exit code, with `n` for 127. Here the picks
+/// are 2 and 3.
 static PICKED: &str = "a0s\nb1s\nc2s\n-2n\n-13\nb5s\n-00\n-53\n";
 
-/// Where call 0 and call 3 fail.
+/// The same, where calls 0 and 3 fail.
 static FAILING: &str = "a0x\na0s\na1s\n-0x\n-10\n";
 
 /// The letter of a code.
@@ -239,7 +239,7 @@ fn letter_of(code: u32) -> u8 {
     }
 }
 
-/// The ticket of a start, and what came of it.
+/// The ticket of a start, and its outcome.
 fn start(alloc: Global, procs: &mut ScriptProcs, word: u8) -> Result<(u64, u8), NoMemory> {
     match procs.start(alloc, &request(alloc, &[word])?) {
         Ok(ticket) => Ok((ticket, b's')),
@@ -328,7 +328,7 @@ fn a_script_keeps_a_journal(rt: HostRuntime) -> Result<(), Fail> {
     Ok(())
 }
 
-/// A limit, and what a take of at most so many bytes gives of `input`, where call 0 fails.
+/// A limit, and the result of taking at most that many bytes of `input`, where call 0 fails.
 static TAKEN: &str = "5 failed\n5 input\n5 \n0 \n";
 
 fn takes(

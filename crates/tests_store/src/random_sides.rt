@@ -1,4 +1,4 @@
-//! Small sides of form 3 by chance, and what is read of them by a plain reader of the definitions:
+//! Random small sides of form 3, and what a plain reader of the definitions reads from them.
 //! `tests/support/random_requests.py` makes the table, and `tests/request_rows.sh` compares it.
 
 ghost use Rattle.store_table.specs.Located.{AreTextsLocated};
@@ -13,11 +13,15 @@ use std::test::Fail;
 use store_journal::{Journal, Opened, Payloads};
 use store_table::{HeldPayloads, LocatedTable, RecordRow, taken_up, text_at};
 
-/// A line for each: the bytes of side A; the texts, products and records that it stands for; what is seen of two files as in the
-/// other tests; and the bytes of side B once so many dead bytes are put before
-/// its payloads that it is compacted. A text is its one byte, or a dot where it has none; a product is the first
-/// letter of its path and its artefact; a record is that letter, how many words it has, its text, the number of the product of each
-/// dependency, a colon and its product.
+/// One row per line, with `|` between its parts:
+///
+/// - the bytes of side A, in hexadecimal digits;
+/// - the texts, products and records that it stands for;
+/// - what is seen of two files, as in the other tests;
+/// - the bytes of side B after a compaction, caused by dead bytes before the payloads of side A.
+///
+/// A text is its one byte, or a dot if it is empty. A product is the first letter of its path, and its artefact. A record is the
+/// first letter of its path, the number of its words, its text, the numbers of its dependencies' products, a colon and its product.
 static RANDOM_SIDES: &str =
     "0156554e4954524543030100000000000000012b00000001030000006c696205000000612e7668640100000002000000636301010000007800000000010000000000012b00000001030000006c696205000000622e7668640100000002000000636301010000007900000000010100000077011700000000030000006c696205000000612e76686401010000007a013300000001030000006c696205000000622e76686400000000000000000000000000010000000100000000000000000100000000000000012a000000010000000005000000612e7668640100000002000000636300010000000000000000000000010000000000|ywz/bwaz/b1y:bw,|ss-w|0156554e4954524543030200000000000000012b00000001030000006c696205000000622e766864010000000200000063630101000000790000000001010000007700
 0156554e4954524543030100000000000000013500000001030000006c696205000000612e766864000000000101000000770200000003000000000000000000000000000000010100000078012b00000001030000006c696205000000612e7668640100000002000000636301010000007800000000010100000077012800000001030000006c696205000000612e7668640000000000000000000000000000000000010100000077013600000001030000006c696205000000632e76686401000000020000006363000000000000000000010000000000000000000000010100000077013500000001030000006c696205000000622e766864010000000200000063630001000000000000000100000000000000000000000101000000013600000001030000006c696205000000622e7668640100000002000000636300000000000000000001000000000000000000000001010000007a012d00000001030000006c696205000000612e76686401000000020000006363000000000000000000000000000100000000013900000001030000006c696205000000622e7668640100000002000000636300000000000000000001000000020000000000000000000000000000000000|xwz./awbza.bx/a1x:aw,b1x0:bz,a1x:a.,b1x2:bx,|ff.x|0156554e4954524543030200000000000000012a00000001030000006c696205000000612e76686401000000020000006363010100000078000000000100000000013900000001030000006c696205000000622e7668640100000002000000636300000000000000000001000000000000000000000000000000000000000000
@@ -250,14 +254,14 @@ fn seen_of(alloc: Global, disk: &mut MemDisk, change: Change) -> Result<[u8; 4],
     seen_on(alloc, disk, change, &graph)
 }
 
-/// Whether that is seen of a side.
+/// Whether these letters are seen of a side.
 fn has_letters(alloc: Global, side: &str, letters: &str) -> Result<bool, StoreFault> {
     let mut disk = side_disk(alloc, side)?;
     let seen = seen_of(alloc, &mut disk, Change::Opens)?;
     Ok(seen.as_slice() == letters.as_bytes())
 }
 
-/// Whether side B has these bytes after a compaction, after which as much is seen as before.
+/// Whether a compaction leaves these bytes on side B, and these letters are seen after it.
 fn has_kept(alloc: Global, side: &str, letters: &str, kept: &str) -> Result<bool, StoreFault> {
     let mut disk = full_disk(alloc, &[], &bytes_of(alloc, side.as_bytes())?)?;
     let seen = seen_of(alloc, &mut disk, Change::Compacts)?;
@@ -265,7 +269,7 @@ fn has_kept(alloc: Global, side: &str, letters: &str, kept: &str) -> Result<bool
     Ok(seen.as_slice() == letters.as_bytes() && disk.reads(Side::B) == wanted.as_slice())
 }
 
-/// Whether a row is what is read of its side, or what is left of it by a compaction.
+/// Whether a row has what is read from its side, or what a compaction of it leaves.
 fn is_right(alloc: Global, row: &str, compacts: bool) -> Result<bool, StoreFault> {
     let Some((side, rest)) = row.split_once('|') else {
         return Ok(false);
@@ -282,7 +286,7 @@ fn is_right(alloc: Global, row: &str, compacts: bool) -> Result<bool, StoreFault
     Ok(has_listing(alloc, side, listing)? && has_letters(alloc, side, letters)?)
 }
 
-/// Whether all rows are.
+/// Whether all rows have that.
 fn are_right(alloc: Global, compacts: bool) -> Result<bool, StoreFault> {
     for row in RANDOM_SIDES.lines() {
         if !is_right(alloc, row, compacts)? {

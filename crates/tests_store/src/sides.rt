@@ -51,8 +51,9 @@ static EXAMPLE: [u8; 126] = [
     0,
 ];
 
-/// The side of generation 2 that compaction leaves of the example where `a.vhd` was recorded anew, with the text `w` and the
-/// artefact `v`: the product that `b.vhd` was compiled over, alone, then `b.vhd`, and then `a.vhd`.
+/// The side of generation 2 that compaction leaves of the example, after `a.vhd` was recorded anew with the text `w` and the
+/// artefact `v`. Its payloads are the old product of `a.vhd`, over which `b.vhd` was compiled, and the records of `b.vhd` and
+/// `a.vhd`.
 static COMPACTED: [u8; 151] = [
     1, b'V', b'U', b'N', b'I', b'T', b'R', b'E', b'C', 3, 2, 0, 0, 0, 0, 0, 0, 0, //
     1, 23, 0, 0, 0, //
@@ -116,8 +117,8 @@ fn kept_side() -> [u8; 67] {
     bytes
 }
 
-/// Of each payload of a long artefact 50 bytes more than it are dead, and of the last one, which takes 51, as many as the
-/// first one takes are live with its artefact: so 1,048,576 bytes are dead here, and one more there.
+/// The lengths of four artefacts. Each of their payloads takes 50 bytes more, and the last payload takes 51 bytes. The live bytes
+/// are as many as the first payload takes. So 1,048,576 bytes are dead here, and one more in `PAST_THE_LIMIT`.
 static AT_THE_LIMIT: [u32; 4] = [262144, 262144, 262144, 261893];
 
 static PAST_THE_LIMIT: [u32; 4] = [262144, 262144, 262144, 261894];

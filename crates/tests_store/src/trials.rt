@@ -1,6 +1,6 @@
-//! Changes that are tried over a disk in memory: what they leave, what a stop inside of them leaves, and calls that fail. A table
-//! has a line of letters for images whose free bytes are 1, and a line for all others: a letter for a stop inside of each call, and
-//! the last one for the end. A call that fails leaves what a stop inside of it can.
+//! Changes over a disk in memory: what they leave, what a stop inside of them leaves, and calls that fail. A table has two lines of
+//! letters: one for images whose free bytes are 1, and one for all other images. A line has a letter for a stop inside of each call,
+//! and the last letter for the end. A call that fails leaves what a stop inside of it can.
 
 use base::{Items, NoMemory, Numbers};
 use memory_outside::MemDisk;

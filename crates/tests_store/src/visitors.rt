@@ -13,14 +13,14 @@ use std::alloc::Global;
 use std::test::Fail;
 use store_journal::{FoundForm, Journal, Opened, Payloads, Visitor};
 
-/// Payloads, of which one that is known is kept as `None`, and each other one as its bytes.
+/// Payloads, each kept as its bytes, but one that equals the known bytes as `None`.
 #[derive(Drop)]
 struct Tagged<'a> {
     known: &'a [u8],
     segments: Vec<Option<Text>>,
 }
 
-/// What is kept of a payload.
+/// The segment that is kept for a payload: `None` for the known bytes, else a copy.
 fn segment_of(alloc: Global, known: &[u8], payload: &[u8]) -> Result<Option<Text>, NoMemory>
     ensures { IfOk result (λ segment. unwrap_or segment known.now ≡ payload.now) }
 {
@@ -55,7 +55,7 @@ impl<'a> Visitor for Tagged<'a> {
     }
 }
 
-/// Whether what is kept of a payload is `None` or its bytes, of which there are so many.
+/// Whether a segment is `None` as wanted, or has the bytes of the payload of this number and length.
 fn is_segment(segment: &Option<Text>, number: usize, length: Option<u32>) -> bool {
     match (segment, length) {
         (None, None) => true,
@@ -77,7 +77,7 @@ fn are_segments(segments: &[Option<Text>], lengths: &[Option<u32>]) -> bool {
     true
 }
 
-/// Whether that is kept of the payloads of a disk, of which one is known.
+/// Whether these segments are kept for the payloads of a disk, with these known bytes.
 fn keeps(
     alloc: Global,
     disk: &mut MemDisk,
@@ -100,7 +100,8 @@ fn keeps_on(
     keeps(alloc, &mut disk, known, kept)
 }
 
-/// Payloads of a side, by their lengths, the number of the known one, and what is kept of each. The window has 131,072 bytes.
+/// The lengths of a side's payloads, the number of the known one, and the lengths of the segments, `None` for one that isn't copied.
+/// The window has 131,072 bytes.
 #[derive(Clone, Copy)]
 struct Row {
     lengths: [u32; 3],

@@ -33,7 +33,7 @@ fn put_payload(side: &mut Vec<u8>, number: usize, length: u32) -> Result<(), NoM
     put_bytes(side, number, length)
 }
 
-/// A side with payloads of these lengths, without so many of its last bytes, of which the very last is a closed commit byte.
+/// A side with payloads of these lengths and a closed commit byte at the end, without its last `dropped` bytes.
 pub fn side_of(alloc: Global, lengths: &[u32], dropped: usize) -> Result<Vec<u8>, NoMemory> {
     let mut side = Vec::from_slice(alloc, &HEAD)?;
     for number in 0..lengths.len() {
@@ -57,7 +57,7 @@ pub fn is_payload(payload: &[u8], number: usize, length: u32) -> bool {
     true
 }
 
-/// Whether payloads are the first so many of these lengths.
+/// Whether the payloads are the first `whole` ones of these lengths.
 fn are_first(payloads: &Payloads, lengths: &[u32], whole: usize) -> bool {
     if payloads.len() != whole as u64 || whole > lengths.len() {
         return false;
@@ -70,7 +70,7 @@ fn are_first(payloads: &Payloads, lengths: &[u32], whole: usize) -> bool {
     true
 }
 
-/// Whether opening a disk finds the first so many payloads of these lengths.
+/// Whether opening a disk finds the first `whole` payloads of these lengths.
 fn opens_to(
     alloc: Global,
     disk: &mut MemDisk,
@@ -99,7 +99,7 @@ fn finds_on(alloc: Global, side: &[u8], lengths: &[u32], whole: usize) -> Result
     finds(alloc, &mut disk, side, lengths, whole)
 }
 
-/// The same of a side with payloads of these lengths, without so many of its last bytes.
+/// The same of a side with payloads of these lengths, without its last `dropped` bytes.
 fn is_read(
     alloc: Global,
     lengths: &[u32],
@@ -137,7 +137,7 @@ fn each_payload_of_a_long_side_is_read(rt: HostRuntime) -> Result<(), Fail> {
     Ok(())
 }
 
-/// Without its last commit byte a payload doesn't count, and neither does one that isn't there to its end.
+/// A payload counts only if it is complete and a commit byte follows it.
 #[test]
 fn a_long_side_that_breaks_off_has_the_payloads_before(rt: HostRuntime) -> Result<(), Fail> {
     for lengths in LENGTHS {
