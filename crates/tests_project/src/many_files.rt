@@ -8,9 +8,9 @@ use std::alloc::Global;
 use std::process::Abort;
 use std::test::Fail;
 
-/// A line each: a project file over 2,048 names from `f00000` on, and after a `~` what is read of it. An end of a line is a
-/// bar. Two libraries of all names are as many files as may be, and what is wrong comes before that they are too many. Where
-/// the project is taken, the read of its first file fails.
+/// One row per line: a project file over 2,048 names from `f00000` on, and after a `~` the result. A bar stands for the end of
+/// a line. Two libraries of all names have the greatest number of files. A fault of the project file is reported rather than
+/// too many files. If the project file is accepted, the read of its first file fails.
 static ROWS: &str = "library=[{name='a',files=['f*']},{name='b',files=['f*']}]~failed
 library=[{name='a',files=['f*']},{name='b',files=['f*','f00001']},{name='c',files=[]}]~failed
 library=[{name='a',files=['f*']},{name='b',files=['f*']},{name='c',files=['f02047']}]~vunit_run: over limit: files 4096|
@@ -41,7 +41,7 @@ fn read_of(alloc: Global, tree: &mut MemTree) -> Result<Text, Fail> {
     }
 }
 
-/// What is read of a project file over so many names, where the read of its first file fails.
+/// The result of reading a project file over `count` names, where the read of its first file fails.
 fn text_of_project(rt: &impl Abort, alloc: Global, count: usize, toml: Text) -> Result<Text, Fail> {
     let mut calls = Numbers::new(alloc);
     calls.push(FIRST_FILE)?;
@@ -55,7 +55,7 @@ fn text_of_project(rt: &impl Abort, alloc: Global, count: usize, toml: Text) -> 
     read_of(alloc, &mut tree)
 }
 
-/// Whether this is read of a project file over so many names.
+/// Whether reading a project file over `count` names has this result.
 fn reads(
     rt: &impl Abort,
     alloc: Global,

@@ -1,4 +1,4 @@
-//! Small trees, and what is read of them, written out by hand.
+//! Small trees, and the results of reading them, written out by hand.
 
 use base::{
     FILE_LIMIT, GRAPH_TEXT_LIMIT, Graph, Items, NAME_LIMIT, NamedText, NamedTextList, Numbers,
@@ -12,9 +12,9 @@ use std::alloc::Global;
 use std::process::Abort;
 use std::test::Fail;
 
-/// A line for each tree: its files, parted by `#`, each with a `%` after its path; and after a `~` what is read: the
-/// warnings, and a word for each file of the graph, of its first letter and those of the files that it depends on; or what
-/// is put of a refusal. An end of a line is a bar.
+/// One tree per line: its files, separated by `#`, each with a `%` after its path; and after a `~` the result. This is the
+/// warnings and a word for each file of the graph, or the text of a refusal. A word has the first letter of the file and those
+/// of the files that it depends on. A bar stands for the end of a line.
 static ROWS: &[u8] = b"x%~vunit_run: no vunit.toml and no vunit.csv|
 vunit.csv%lib,a.vhd|lib#a.vhd%~vunit_run: vunit.csv: bad line 2|
 vunit.csv%lib,b.vhd|lib,a.vhd#a.vhd%package a is end;#b.vhd%use work.missing.all; package b is end;~b ab 
@@ -244,7 +244,7 @@ pub(super) fn add_numbered(
     add_file(alloc, files, path.as_slice(), bytes)
 }
 
-/// A project file that lists so many files.
+/// A project file that lists `count` files.
 fn listing(alloc: Global, count: usize) -> Result<Text, Fail> {
     let mut out = Vec::new(alloc);
     for number in 0..count {
@@ -255,7 +255,7 @@ fn listing(alloc: Global, count: usize) -> Result<Text, Fail> {
     Ok(Text::from_vec(out))
 }
 
-/// A text of so many ends of lines.
+/// A text of `size` line feeds.
 fn blank(alloc: Global, size: usize) -> Result<Text, Fail> {
     Ok(Text::from_vec(vec![in alloc; b'\n'; size]?))
 }
@@ -266,7 +266,7 @@ fn alone(alloc: Global, path: &[u8], bytes: Text) -> Result<NamedTextList, Fail>
     Ok(files)
 }
 
-/// A listed project whose files have so many bytes together, each as many as it may.
+/// A listed project whose files have `total` bytes together: each but the last has as many as the limit allows.
 fn of_total(alloc: Global, total: usize) -> Result<NamedTextList, Fail> {
     let mut files: NamedTextList = Items::new(alloc);
     let mut left = total;
@@ -283,7 +283,7 @@ fn of_total(alloc: Global, total: usize) -> Result<NamedTextList, Fail> {
     Ok(files)
 }
 
-/// A project in TOML without libraries in a folder of so many other names.
+/// A project in TOML without libraries, in a folder with `count` other names.
 fn of_names(alloc: Global, count: usize) -> Result<NamedTextList, Fail> {
     let mut files = alone(
         alloc,
@@ -296,7 +296,7 @@ fn of_names(alloc: Global, count: usize) -> Result<NamedTextList, Fail> {
     Ok(files)
 }
 
-/// The letter of what is read of a project file that lists so many files.
+/// The letter of the result of reading a project file that lists `count` files.
 fn letter_of_listing(rt: &impl Abort, alloc: Global, count: usize) -> Result<u8, Fail> {
     let files = alone(alloc, b"vunit.csv", listing(alloc, count)?)?;
     letter_of(rt, alloc, files, NEVER)
@@ -309,7 +309,7 @@ fn a_project_has_no_more_files_than_it_may(rt: HostRuntime) -> Result<(), Fail> 
     Ok(())
 }
 
-/// The letter of what is read of a project file of so many ends of lines, one call of the tree being to fail.
+/// The letter of the result of reading a project file of `size` line feeds, where one call of the tree fails.
 fn letter_of_blank(
     rt: &impl Abort,
     alloc: Global,
