@@ -141,7 +141,7 @@ fn words_say_what_clap_reads(rt: HostRuntime) -> Result<(), Fail> {
     Ok(())
 }
 
-/// A valid argument, and after it one that isn't UTF-8.
+/// A valid argument, followed by an argument of a byte that isn't UTF-8.
 fn foreign_words(alloc: Global) -> Result<TextList, NoMemory> {
     let mut words = words_of(alloc, "--compile")?;
     words.push(Text::from_slice(alloc, b"\xff")?)?;

@@ -251,9 +251,9 @@ impl Trial for Empties {
     }
 }
 
-/// What a stop inside of each call leaves while a disk is emptied, from the first such call on. 6 calls sync both sides and read
-/// how they begin, and 2 cut the side that doesn't count. Then 2 make the other side dead: meanwhile its first byte may have any
-/// value. The last 8 write the empty journal there.
+/// What a stop inside of each call leaves while a disk is emptied, beginning with the first of these calls. The first 6 sync both
+/// sides and read how they begin, and 2 cut the side that doesn't count. Then 2 make the other side dead: meanwhile its first byte
+/// may have any value. The last 8 write the empty journal there.
 static EMPTYING_OLDER: &str = "cccccccccc---------\ncccccccc-----------";
 
 static EMPTYING_NEWER: &str = "nnnnnnnnnn---------\nnnnnnnnn-----------";

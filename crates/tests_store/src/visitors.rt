@@ -100,8 +100,8 @@ fn keeps_on(
     keeps(alloc, &mut disk, known, kept)
 }
 
-/// The lengths of a side's payloads, the number of the known one, and the lengths of the segments, `None` for one that isn't copied.
-/// The window has 131,072 bytes.
+/// The lengths of a side's payloads, the number of the known one, and for each payload `None` if it is known, else its length. The
+/// window has 131,072 bytes.
 #[derive(Clone, Copy)]
 struct Row {
     lengths: [u32; 3],
