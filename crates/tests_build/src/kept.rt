@@ -1,10 +1,10 @@
-//! Records in plain words: of each name what its compiler was asked last, and what it gave.
+//! Records in plain form: for each name the latest request to its compiler, and the artefact that the compiler gave.
 
 use crate::sets::has;
 use crate::shapes::{Project, artefact_of, deps_of, file_at, letter, library, text, word};
 
-/// What a compiler is asked: its word, the text, and the files below, in order, three bytes each: library, path and what the
-/// artefact has after the path.
+/// A request to a compiler: its word, the text, and the file's dependencies in order. A dependency takes three bytes: its
+/// library, its path and the byte of its artefact after the path.
 #[derive(Clone, Copy)]
 pub(super) struct Asked {
     word: [u8; 2],
@@ -12,7 +12,7 @@ pub(super) struct Asked {
     below: [u8; 24],
 }
 
-/// What was asked last for a name, and what its artefact has after its path; 0 where there is no record.
+/// The latest request for a name, and the byte of its artefact after the path, or 0 without a record.
 #[derive(Clone, Copy)]
 pub(super) struct Kept {
     asked: Asked,
@@ -38,7 +38,7 @@ fn index(project: &Project, at: u8) -> u8 {
     at % 8 + other
 }
 
-/// What is asked for a file, over files with these artefacts.
+/// The request for a file, over files with these artefacts.
 pub(super) fn asked_of(project: &Project, made: &[u8; 8], at: u8) -> Asked {
     let mut below = [0u8; 24];
     let mut count = 0u8;
@@ -63,8 +63,7 @@ fn same_asked(asked: &Asked, other: &Asked) -> bool {
     asked.word == other.word && asked.text == other.text && asked.below == other.below
 }
 
-/// What the latest record of a file gave, where that was asked exactly what would be asked over files with these artefacts;
-/// and else 0.
+/// The artefact of the latest record of a file if its request equals the one over files with these artefacts, else 0.
 pub(super) fn current(kept: &AllKept, project: &Project, made: &[u8; 8], at: u8) -> u8 {
     let last = &kept[(index(project, at) % 16) as usize];
     if same_asked(&last.asked, &asked_of(project, made, at)) {
@@ -74,7 +73,7 @@ pub(super) fn current(kept: &AllKept, project: &Project, made: &[u8; 8], at: u8)
     }
 }
 
-/// Keeps what a file was asked over files with these artefacts, and what its compiler gave.
+/// Records the request for a file over files with these artefacts, and the artefact that its compiler gives.
 pub(super) fn keep(kept: &mut AllKept, project: &Project, made: &[u8; 8], at: u8) {
     kept[(index(project, at) % 16) as usize] = Kept {
         asked: asked_of(project, made, at),

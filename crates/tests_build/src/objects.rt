@@ -119,7 +119,7 @@ fn is_idle(procs: &ScriptProcs) -> bool
     procs.running_tickets().is_empty()
 }
 
-/// The statuses of a build, and what the store lends of each file in the end where all are made.
+/// The statuses of a build, and if all files are made, the artefacts that the store lends in the end.
 #[derive(Drop)]
 struct BuildEnd {
     statuses: FileStatusList,
@@ -138,7 +138,7 @@ fn are_made(statuses: &FileStatusList) -> bool {
     true
 }
 
-/// The artefacts of all files that a store lends, one after the other; a file that has none gives `?`.
+/// If all files are made, the artefacts that a store lends, joined, with `?` for a file without one; else no bytes.
 fn borrowed_whole<K: Records>(
     alloc: Global,
     graph: &Graph,
@@ -202,7 +202,7 @@ fn build_over(
     build_in(alloc, graph, &mut store, disk, procs, limit, keep_going)
 }
 
-/// The file that a ticket was started for; 8 where it is none.
+/// The file that a ticket was started for, or 8 if it was not started for a file.
 fn started_file(events: &[Event], ticket: u64) -> u8 {
     match started_for(events, ticket) {
         Some(request) => file_of(request.input.bytes()),

@@ -3,7 +3,7 @@
 
 use base::{Event, Request};
 
-/// A number of a seed, of which the low bits are thrown away.
+/// A pseudo-random number by a seed and a turn.
 pub fn mixed(seed: u32, turn: u32) -> u32 {
     let mut x = seed.wrapping_mul(0x9e37_79b1) ^ turn.wrapping_mul(0x85eb_ca77);
     for _ in 0..3 {
@@ -31,7 +31,7 @@ pub fn pick_of(picks: u32, wait: u32) -> u32 {
     left % 16
 }
 
-/// Takes the child that a wait takes of those that run; nothing where none runs.
+/// Removes and returns the running child whose end a wait takes, or `None` if no child runs.
 pub fn take_child(running: &mut Vec<u8>, picks: u32, wait: u32) -> Option<u8> {
     let count = running.len();
     if count == 0 {
@@ -41,7 +41,7 @@ pub fn take_child(running: &mut Vec<u8>, picks: u32, wait: u32) -> Option<u8> {
     Some(running.remove(index))
 }
 
-/// What a ticket was started for; nothing where it is none.
+/// The request that a ticket was started for, or `None` for a ticket without a start.
 pub fn started_for<'a>(events: &'a [Event], ticket: u64) -> Option<&'a Request> {
     for event in events {
         match event {

@@ -1,5 +1,5 @@
-//! A plain build over lists: what is made or has a current record over files that are made is passed over; it starts the first
-//! file that may be started while it may, and else takes an end.
+//! A plain build over lists. It skips each file that is made, or whose record is current over files that are made. It starts the
+//! first file that is ready while a slot is free, and else waits for an end.
 
 use crate::kept::{AllKept, current, keep};
 use crate::picks::take_child;

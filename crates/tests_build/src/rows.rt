@@ -13,14 +13,26 @@ use std::alloc::Global;
 use std::process::Abort;
 use std::test::Fail;
 
-/// A row a line: what it shows, and builds over one disk that is empty at first, with `|` between two. A build has words: the
-/// letter of its shape, and what is other than at first, as the letters of files after `t` (another text, and another
-/// artefact), `c` (another comment, and the same artefact), `o` (other words of the compiler), `m` (another library) and `n`
-/// (another artefact, whatever is asked), and `s` where the first two files are in the other order; then `p` and the number of slots, where
-/// it isn't 1, `k` where the build goes on after a refusal, `r` and the files that are refused, `f` and the start or wait that fails,
-/// counted from 0, and `w` and the indices that waits take among the running children. After `>` come what is started and ends, as in what
-/// is told, or `.` where nothing is; the statuses, or the fault; and the letters and artefacts of all files, or `.` where one has none.
-/// After `=` come the statuses alone, and after `?` the plan.
+/// One row per line: its title, and builds over one disk that is empty at first, with `|` between two. A build begins with the
+/// letter of its shape. Words for changes from the first project follow:
+///
+/// - `t` and letters of files: another text, and another artefact;
+/// - `c` and letters of files: another comment, and the same artefact;
+/// - `o` and letters of files: another compiler command, and the same artefact;
+/// - `m` and letters of files: another library;
+/// - `n` and letters of files: another artefact for the same request;
+/// - `s`: the first two files are in the other order.
+///
+/// Then the words for the run of the build:
+///
+/// - `p` and the number of slots, 1 without it;
+/// - `k`: the build goes on after a refusal;
+/// - `r` and the letters of the files that are refused;
+/// - `f` and the start or wait that fails, counted from 0;
+/// - `w` and for each wait the index that it takes among the running children.
+///
+/// After `>` stand the events, the statuses or the fault, and the letters and artefacts of all files. The first is `.` without
+/// events, and the last is `.` unless all files are made. After `=` stand the statuses alone, and after `?` the plan.
 static ROWS: &str = "\
 all files are compiled once|U > +0-0+1-1+2-2+3-3+4-4+5-5 cccccc a1b1c1d1e1f1|U > . ffffff a1b1c1d1e1f1
 a free slot is used before the first wait|U p3 > +0+2-0+1+3-2-1+4-3-4+5-5 cccccc a1b1c1d1e1f1
@@ -75,7 +87,7 @@ a loss while a check is due|O = cccc|O ta cb p2 f2 > +0+1?0-1 lost .|O ta cb > +
 what depends on a stale file is planned for later|U = cccccc|U ta f2 > +0-0 start .|U ? slflll|U ta ? fsfsll|U tac ? fsssll
 a plan does not know yet what a comment changes|U = cccccc|U ca ? slflll|U oc ? ffsffl|U na ? ffffff|T ? fsll";
 
-/// What follows a letter in the first word that begins with it, or nothing.
+/// The rest of the first word that begins with a letter, or the empty text.
 fn after(words: &str, letter: u8) -> &str {
     for word in words.split(' ') {
         if word.as_bytes().first() == Some(&letter) {
@@ -101,7 +113,7 @@ fn files_in(words: &str, letter: u8) -> u8 {
     files
 }
 
-/// The number that follows a letter, or another one where there is none.
+/// The number that follows a letter, or `other` without such a number.
 fn number_in(words: &str, letter: u8, other: u32) -> u32 {
     after(words, letter).parse::<u32>().unwrap_or(other)
 }
@@ -119,7 +131,7 @@ fn project_in(words: &str) -> Project {
     project
 }
 
-/// The places that waits take, four bits each, the first one low.
+/// The indices that waits take, four bits each, the first one low.
 fn picks_in(words: &str) -> u32 {
     let mut picks = 0u32;
     for digit in after(words, b'w').bytes().rev() {
@@ -150,7 +162,7 @@ fn fault_word(fault: &RunFault) -> &'static [u8] {
     }
 }
 
-/// Whether letters are those of a word, of which one dot is nothing.
+/// Whether letters are those of a word. A word of one dot stands for no letters.
 fn are(letters: &[u8], word: &str) -> bool {
     if word == "." {
         return letters.is_empty();
@@ -158,7 +170,7 @@ fn are(letters: &[u8], word: &str) -> bool {
     letters == word.as_bytes()
 }
 
-/// Whether the marks, or the fault, are these.
+/// Whether the statuses, or the fault, are these.
 fn ends_so(told: &Told, word: &str) -> bool {
     match &told.fault {
         None => are(told.statuses.as_slice(), word),
@@ -184,8 +196,8 @@ fn plans(alloc: Global, project: &Project, wanted: &str, disk: &mut MemDisk) -> 
     Ok(are(told.as_slice(), wanted))
 }
 
-/// Whether a build of a row, by words before and after its sign, goes as it says, and as the plain build; after `=` the marks alone;
-/// and the records after it.
+/// Whether a build of a row gives what follows its sign: the plan after `?`, the statuses after `=`, all three parts after `>`. After
+/// `>` it must agree with the plain build too. Unless only a plan is made, `kept` becomes the records of the plain build.
 fn goes(
     rt: &impl Abort,
     alloc: Global,
@@ -209,7 +221,7 @@ fn goes(
     Ok(is(&told, wanted) && agree(alloc, &told, &plain, &project, way.keep_going)?)
 }
 
-/// The same of a build as it is in its row.
+/// The same for the text of a build in its row.
 fn build_goes(
     rt: &impl Abort,
     alloc: Global,

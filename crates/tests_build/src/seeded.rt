@@ -32,7 +32,7 @@ fn close_deps(deps: &[u8; 8], chosen: u8) -> u8 {
     all
 }
 
-/// A graph of 2 to 8 files, of which the last depends on all others.
+/// A graph of 2 to 8 files. Its last file depends on all others.
 fn shape_of(seed: u32) -> Shape {
     let count = 2 + byte(seed, 1) % 7;
     let mut deps = [0u8; 8];
@@ -84,8 +84,8 @@ fn same_statuses(
     Ok(statuses.as_slice() == others.as_slice())
 }
 
-/// Builds a copy of a disk that has these records. With keep going, or where nothing is refused, the statuses are those of one
-/// slot. Says whether a file is found fresh in the middle, over one that was compiled.
+/// Builds a copy of a disk that has these records. With `keep_going`, or if no file is refused, the statuses must be those of a
+/// plain build with one slot. Returns whether a file is fresh although it depends on a compiled one.
 fn build_copy(
     rt: &impl Abort,
     alloc: Global,
@@ -125,8 +125,8 @@ fn build_copies(
     Ok(late)
 }
 
-/// A project after so many edits: as it was at first, or with random files that are other than at first, and seldom with another
-/// shape.
+/// A project after `edits` edits. After an even number no file differs from the first project, else random files do. Its shape is
+/// seldom another one.
 fn project_after(seed: u32, edits: u32) -> Project {
     let other = mixed(seed, edits.wrapping_add(60));
     let shape = if byte(other, 0) % 8 == 0 {
@@ -141,8 +141,8 @@ fn project_after(seed: u32, edits: u32) -> Project {
     }
 }
 
-/// Builds a project on a disk once for each of so many edits, and then copies of the disk after one edit more. Says whether a file is
-/// found fresh in the middle then.
+/// Builds a project on a disk after 0, 1, .. and `edits - 1` edits, and then copies of the disk after `edits` edits. Returns whether
+/// one of the last builds finds a file fresh although it depends on a compiled one.
 fn row(
     rt: &impl Abort,
     alloc: Global,
@@ -166,7 +166,7 @@ fn row_over(rt: &impl Abort, alloc: Global, seed: u32, edits: u32) -> Result<boo
     row(rt, alloc, seed, edits, &mut disk)
 }
 
-/// Builds rows of so many edits, of which more than this many find a file fresh in the middle.
+/// Builds rows with `edits` edits. More than `least` of them must have a file that is fresh although it depends on a compiled one.
 fn rows_go(rt: &impl Abort, alloc: Global, edits: u32, least: u32) -> Result<(), Fail> {
     let mut found = 0u32;
     for seed in 0..ROWS {

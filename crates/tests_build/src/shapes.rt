@@ -13,7 +13,7 @@ pub(super) struct Shape {
     pub deps: [u8; 8],
 }
 
-/// A project as it is when it is built: its shape, and of which files something is other than it was at first.
+/// A project for one build: its shape, and the sets of files that differ from the first project.
 #[derive(Clone, Copy)]
 pub(super) struct Project {
     pub shape: Shape,
@@ -31,7 +31,7 @@ pub(super) struct Project {
     pub swapped: bool,
 }
 
-/// A project as it is at first.
+/// The first project of a shape, without changes.
 pub(super) fn first(shape: &Shape) -> Project {
     Project {
         shape: *shape,
@@ -209,7 +209,7 @@ pub(super) fn input_of(
     Ok(out)
 }
 
-/// The file whose compiler is handed these bytes; 8 where it is none.
+/// The file whose compiler gets this input, or 8 for the input of no file.
 pub(super) fn file_of(input: &[u8]) -> u8 {
     if input.len() < 16 || input[15] < b'a' || input[15] > b'h' {
         return 8;

@@ -76,7 +76,7 @@ static ROWS: [Row; 12] = [
             Checks(5, true),
         ],
     },
-    // The file that changed gave what it gave before: nothing else is started. A file that is fresh lets the next be checked.
+    // The changed file yields the same artefact: nothing else is started. A fresh file lets the next file be checked.
     Row {
         limit: 1,
         keep_going: false,
@@ -200,7 +200,7 @@ static ROWS: [Row; 12] = [
         needs: [Stale, Later, Stale, Later, Later, Later],
         calls: &[Starts(0), Starts(2), Loses(2), Ends(0)],
     },
-    // So does a stop.
+    // A stop ends the build in the same way.
     Row {
         limit: 3,
         keep_going: true,

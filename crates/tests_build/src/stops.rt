@@ -89,7 +89,7 @@ fn built_disk(rt: &impl Abort, alloc: Global, failing: u32) -> Result<MemDisk, F
     Ok(disk)
 }
 
-/// The records after the first so many commits of a build, once the package has changed.
+/// The records after the first `count` commits of a build, once the package has changed.
 fn kept_after(count: u32) -> AllKept {
     let mut kept = none_kept();
     for at in 0..6u8 {
@@ -135,8 +135,8 @@ fn builds_at_all(rt: &impl Abort, alloc: Global, call: u32) -> Result<bool, Fail
     Ok(fault.is_none())
 }
 
-/// How many calls of the disk a build after the change makes, those that write it first among them: it doesn't see that
-/// the next one fails.
+/// How many disk calls are made until the end of a build after the change, with the calls that first write the disk. This
+/// is the first call whose failure the build doesn't notice.
 fn calls_of(rt: &impl Abort, alloc: Global) -> Result<u32, Fail> {
     for call in WRITING..MANY {
         if builds_at_all(rt, alloc, call)? {
