@@ -69,7 +69,7 @@ fn run_at(at: usize) -> (u8, &'static str) {
 }
 
 impl Stops {
-    /// Keeps what became of a run.
+    /// Keeps the letter of a run's outcome, and the length of the journal after it.
     fn note(&mut self, outcome: &Outcome, procs: &LoopProcs) -> Result<(), NoMemory>
         ensures ended { self.new.ended ≡ self.old.ended }
     {
@@ -164,8 +164,9 @@ fn run_stopped(rt: &impl Abort, alloc: Global, moment: u64, fill: u8) -> Result<
     Ok(stops)
 }
 
-/// Where no stop loses a record: five files are compiled in the first run, and of stage 2 the package, its three users and the
-/// bench with the tests of two cases; then the tests alone; of stage 3 the package; and then nothing. Each has a start and an end.
+/// No stop loses a record. The first run compiles five files. The second compiles the package, its three users and the bench, and
+/// runs two cases. The third runs the two cases alone, the fourth compiles the package, and the last starts nothing. Each child has
+/// a start and an end.
 #[test]
 fn stops_after_runs_lose_nothing(rt: HostRuntime) -> Result<(), Fail> {
     let stops = run_stopped(&rt, rt.alloc(), AFTER, 0)?;
@@ -174,8 +175,8 @@ fn stops_after_runs_lose_nothing(rt: HostRuntime) -> Result<(), Fail> {
     Ok(())
 }
 
-/// Where each of the first three is stopped before it has written anything, the disk stays empty, so that each run of stage 2
-/// compiles six files and runs two cases, and the first one of stage 3 compiles six.
+/// Each of the first three runs is stopped before it has written anything, so the disk stays empty. Each run of stage 2 compiles six
+/// files and runs two cases, and the first run of stage 3 compiles six files.
 #[test]
 fn stops_before_the_first_write_leave_nothing(rt: HostRuntime) -> Result<(), Fail> {
     let stops = run_stopped(&rt, rt.alloc(), 0, 0)?;
@@ -184,8 +185,8 @@ fn stops_before_the_first_write_leave_nothing(rt: HostRuntime) -> Result<(), Fai
     Ok(())
 }
 
-/// Wherever they are stopped, whatever unwritten bytes are: each run is done, between both numbers of events, and the last one, after one
-/// that was not stopped, starts nothing.
+/// The first three runs are stopped in each call, with unwritten bytes of 0 and 255. Each run is done. After the second and the fourth
+/// run the number of events is between those of the two tests above. The last run follows one that was not stopped, and starts nothing.
 #[test]
 fn each_stop_is_made_good(rt: HostRuntime) -> Result<(), Fail> {
     for moment in 0..CALLS {

@@ -12,9 +12,9 @@ use std::alloc::Global;
 use std::process::Abort;
 use std::test::Fail;
 
-/// A row a line: the lines of `vunit.csv`; what `t.vhd` begins with; the words; what was said; and the report that is in
-/// `out.xml`. What was said begins with a line of the letter of the first answer, how many events it added to the journal, and
-/// the same of the second; after it comes what both have put. `~` is a line feed.
+/// One row per line, with `|` between its parts: the lines of `vunit.csv`, the beginning of `t.vhd`, the arguments, the wanted result
+/// and the report in `out.xml`. The first line of the result has the letter of the first run's outcome and the number of events that
+/// it added to the journal, and the same of the second run. The output of both runs follows. `~` stands for a line feed.
 static ROWS: &str = "\
 |||d0d0~Re-compile not needed~No tests were run!~Re-compile not needed~No tests were run!~|
 lib,t.vhd~|||d6d4~Compiling into lib: t.vhd passed~Compile passed~pass lib.t.one~pass lib.t.two~==== Summary~pass 2 of 2~fail 0 of 2~skip 0 of 2~All passed!~Re-compile not needed~pass lib.t.one~pass lib.t.two~==== Summary~pass 2 of 2~fail 0 of 2~skip 0 of 2~All passed!~|
@@ -27,7 +27,7 @@ lib,t.vhd~|-- child: refuse bad~|-x out.xml|r2r2~Compiling into lib: t.vhd faile
 static BENCH: &str =
     "entity t is generic (runner_cfg : string); end;~architecture a of t is begin~x <= run(\"one\");~y <= run(\"two\");~end;~";
 
-/// A byte of a row as it is meant.
+/// The byte that a byte of a row stands for.
 fn meant(byte: u8) -> u8 {
     if byte == b'~' { b'\n' } else { byte }
 }
@@ -39,7 +39,7 @@ fn push_lines(lines: &mut Vec<u8>, text: &str) -> Result<(), NoMemory> {
     Ok(())
 }
 
-/// Whether bytes are what a part of a row says.
+/// Whether a part of a row stands for these bytes.
 fn are_lines(bytes: &[u8], text: &str) -> bool {
     let text = text.as_bytes();
     if bytes.len() != text.len() {
@@ -112,7 +112,7 @@ fn over_children<T: Tree, D: Disk, O: Sink, R: Reports>(
     [first, digit(events), second, digit(more), b'\n']
 }
 
-/// What two runs said.
+/// The result of two runs: their outcomes and events, and then their output.
 fn over_disk<T: Tree, D: Disk, R: Reports>(
     rt: &impl Abort,
     alloc: Global,
@@ -150,7 +150,7 @@ fn over_project<R: Reports>(
     over_tree(rt, alloc, words, &mut tree, reports)
 }
 
-/// Whether two runs say what a row does.
+/// Whether two runs have the result that a row wants.
 fn is_said<R: Reports>(
     rt: &impl Abort,
     alloc: Global,
@@ -162,7 +162,7 @@ fn is_said<R: Reports>(
     Ok(are_lines(said.as_slice(), part(row, 3)))
 }
 
-/// Whether there is the report that a row has, or none where it has none.
+/// Whether `out.xml` has the report of a row. If the row has no report, the file is absent or empty.
 fn is_written(alloc: Global, row: &str, reports: &MemReports) -> Result<bool, NoMemory> {
     let path = Text::from_slice(alloc, b"out.xml")?;
     Ok(are_lines(reports.file(&path).unwrap_or(&[]), part(row, 4)))

@@ -13,12 +13,19 @@ use std::alloc::Global;
 use std::process::Abort;
 use std::test::Fail;
 
-/// A row a line: the words; what runs do (`c` compiles, `n` compiles all anew, `t` runs the two tests), and the stage of the build
-/// that came before, if one did; the letter of their answer; how many calls are made of the tree, the disk, the output, the reports
-/// and the input, by letters; which texts are put; the starts and waits, in order; and the report that is there in the end, if
-/// one is. Of the tree the project file, the listing and six files are asked for. Of the disk a letter of `OPENINGS` says how it is opened,
-/// and a number how many records are committed. With three slots p, t and the bench start first, and each end of one of them lets a
-/// user of p start.
+/// One row per line, with `|` between its parts:
+///
+/// - the arguments;
+/// - what runs do (`c` compiles, `n` compiles all anew, `t` runs the two tests), and the stage of an earlier build, if there was one;
+/// - the letter of their outcome;
+/// - how many calls of the tree, the disk, the output, the reports and the input they make, each after the letter of the object;
+/// - the letters of the texts that they print;
+/// - the starts and waits, in order;
+/// - the report that is there in the end, if any.
+///
+/// The calls of the tree read the project file, the listing and six files. For the disk, a letter of `OPENINGS` tells how it is
+/// opened, and a digit how many records are committed. With three slots p, t and the bench start first, and each end of one of
+/// them lets a user of p start.
 static ROWS: &str = "\
 --compile|c|d|t8 kE6 o1|C|swswswswswsw
 --compile|c1|d|t8 kL5 o1|E|swswswswsw

@@ -6,8 +6,7 @@ use std::alloc::Global;
 use std::process::Abort;
 use std::test::Fail;
 
-/// The files of two packages of which the second is edited: path and text of each, with `~` in place of a line feed, and `;` after
-/// each.
+/// The files of two packages, where the second is edited: the path of each, `=`, its text and `|`. `~` stands for a line feed.
 static TWO: &str = "\
 vunit.toml=[[library]]~name = \"lib\"~files = [\"src/*.vhd\", \"tb.vhd\"]~|\
 tb.vhd=library lib;~use lib.p1.all;~entity tb is generic (runner_cfg : string); end;~architecture a of tb is begin~  x <= run(\"one\");~  y <= run(\"two\");~end;~|\

@@ -28,7 +28,7 @@ static FILES: &str = "\
 123|t.vhd|package t is end;~
 23|b.vhd|entity b is generic (runner_cfg : string); end;~architecture a of b is begin~x <= run(\"one\");~y <= run(\"two\");~end;~";
 
-/// A byte of a table as it is meant in a stage.
+/// The byte that a byte of a table stands for in a stage.
 fn meant(byte: u8, stage: u8) -> u8 {
     match byte {
         b'~' => b'\n',
@@ -44,7 +44,7 @@ pub(super) fn push_meant(bytes: &mut Vec<u8>, text: &str, stage: u8) -> Result<(
     Ok(())
 }
 
-/// Whether bytes are those of a table, as they are meant in a stage.
+/// Whether a text of a table stands for these bytes in a stage.
 pub(super) fn are_meant(bytes: &[u8], text: &str, stage: u8) -> bool {
     let text = text.as_bytes();
     if bytes.len() != text.len() {
@@ -58,7 +58,7 @@ pub(super) fn are_meant(bytes: &[u8], text: &str, stage: u8) -> bool {
     true
 }
 
-/// The text of a file in a stage, as it is in the table.
+/// The text of a file in a stage, in the notation of the table.
 pub(super) fn text_in(letter: u8, stage: u8) -> &'static str {
     for row in FILES.lines() {
         let is_file = part(row, 1).as_bytes() == [letter, b'.', b'v', b'h', b'd'].as_slice();

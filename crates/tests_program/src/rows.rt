@@ -1,4 +1,4 @@
-//! Generated projects over children in memory: what is answered, how many children ended, and what is said.
+//! Generated projects over children in memory: their outcome, the number of ended children, and their output.
 
 use crate::coded::CodedProcs;
 use base::{NoMemory, Numbers};
@@ -9,9 +9,13 @@ use std::alloc::Global;
 use std::process::Abort;
 use std::test::Fail;
 
-/// A row a line: how many packages and children at once, `x` where failed tests are no matter, the end that has the code 1, and
-/// the call of the children that fails, both counted from 0, each with `-` for none; the letter of the answer, and how many
-/// children ended; and what is said, where `~` is a line feed.
+/// One row per line, with a blank between its parts:
+///
+/// - the number of packages, and the number of slots;
+/// - `x` if the outcome ignores failed tests, else `-`;
+/// - the end that has the code 1, and the call of the children that fails, both counted from 0, each with `-` for none;
+/// - the letter of the outcome or fault, and how many children ended;
+/// - the output, where `~` stands for a line feed, or `-` after a fault.
 static ROWS: &str = "\
 1 1 - - - d 6 files 2~first build compiled 2~second build compiled 2~tests passed 2 of 2~
 2 1 - - - d 6 files 3~first build compiled 3~second build compiled 1~tests passed 2 of 2~
@@ -50,7 +54,7 @@ fn part(row: &str, at: usize) -> &str {
     row.splitn(8, ' ').nth(at).unwrap_or("")
 }
 
-/// Whether bytes are what a part of a row says.
+/// Whether a part of a row stands for these bytes.
 fn are_lines(bytes: &[u8], text: &str) -> bool {
     let text = text.as_bytes();
     if bytes.len() != text.len() {

@@ -13,10 +13,11 @@ const LONG: u64 = (1 << 63) - 1;
 /// More calls of the disk than any run makes over what a stop of a run leaves.
 const MANY: u64 = 50;
 
-/// A row a line: the runs before; the run that is stopped; how many calls of the disk those make, and this one, each as the letter of
-/// an opening and the number of records; and the stages of runs that go on from what it leaves. A run is its stage and its words. In stage
-/// 1 five files are compiled; after that in stage 2 the package, its three users and the bench; and after that in stage 3 the package
-/// alone, as in stage 2 again.
+/// One row per line, with `|` between its parts: earlier runs, the run that is stopped, the disk calls of both, and the stages of
+/// later runs. A run is its stage and its arguments. The disk calls of a run are the letter of an opening and the number of records.
+///
+/// Stage 1 compiles five files. After it, stage 2 compiles the package, its three users and the bench. After that, stage 3 compiles the
+/// package alone, and then stage 2 compiles it alone again.
 static ROWS: &str = "\
 |1--compile||E5|123
 |2||E6|123
@@ -108,7 +109,7 @@ fn leaves_each(
     Ok(true)
 }
 
-/// Whether so many files are stale on what a stop inside a call leaves at least.
+/// Whether exactly `count` files are stale on the shortest sides that a stop inside a call leaves.
 fn has_stale(
     alloc: Global,
     disk: &MemDisk,
@@ -138,7 +139,7 @@ fn words_in(run: &str) -> &str {
     run.split_at_checked(1).map_or("", |parts| parts.1)
 }
 
-/// Whether a run is done, or there is none.
+/// Whether a run is done. An empty text stands for no run, and counts as done.
 fn is_done(
     rt: &impl Abort,
     alloc: Global,
@@ -211,7 +212,7 @@ fn passes_row(rt: &impl Abort, alloc: Global, row: &str) -> Result<bool, NoMemor
     passes(rt, alloc, &mut disk, row)
 }
 
-/// The same where the run over what was left is itself stopped at any moment: past its last call a moment is the present.
+/// The same where the run after the stop is itself stopped at any moment. A moment past its last call is the end of the run.
 fn goes_on_twice(
     rt: &impl Abort,
     alloc: Global,
@@ -225,8 +226,8 @@ fn goes_on_twice(
     Ok(goes_on(rt, alloc, &mut image, stage)? && leaves_each(rt, alloc, &image, 0, MANY, stage)?)
 }
 
-/// The same of each moment from one up to another, where free bytes are open gates, and each side is as short or as long as it
-/// may be.
+/// The same of each moment from one up to another, where free bytes are open commit bytes, and each side is as short or as long as
+/// it may be.
 fn leaves_twice(
     rt: &impl Abort,
     alloc: Global,
