@@ -1,4 +1,4 @@
-//! What runs of tests ask of their runs and of a store, as tests.
+//! The preconditions of test runs on their runs and on a store, as tests at run time.
 
 ghost use Rattle.std.specs.Prelude.{◌≡◌, ◌≤◌, ◌<◌, ℕ, All, IfOk, IsTrue, length, sum_by};
 ghost use Rattle.base.specs.declared.limits.TheConstants.{TEXT_LIMIT};
@@ -27,14 +27,14 @@ fn are_short(names: &[Text]) -> bool
     true
 }
 
-/// Whether a text has at most so many bytes.
+/// Whether a text has at most `limit` bytes.
 fn is_short(text: &Text, limit: usize) -> bool
     ensures { IsTrue result → length text.now ≤ limit }
 {
     text.bytes().len() <= limit
 }
 
-/// Whether a run has the size of one.
+/// Whether a run is within the size limits of runs.
 fn fits(run: &TestRun) -> bool
     ensures { IsTrue result → FitsRun run.now }
 {

@@ -1,9 +1,10 @@
-//! Runs as lines of a text, one a run, with `|` between two parts, and what the child of each is asked.
+//! Runs as lines of a text, one run per line, with `|` between its parts; and the request to the child of each.
 //!
-//! The parts are the library, the bench, the architecture, and the cases with `;` between two; `w` where the bench names
-//! none itself and `s` where all run in one simulation; the path of its file; what is wanted of the request, which is the
-//! name of the folder and the values of `enabled_test_cases` and `tb path`; and then the exit: the code, the output, of
-//! which `*9` stands for nine letters, and the results, or `-` for none. In both `~` stands for a line feed.
+//! - The run: the library, the bench, the architecture, the cases with `;` between two, the mode and the path of its file.
+//!   The mode is `w` for a bench that names no case itself, and `s` if all cases run in one simulation.
+//! - The wanted request: the name of the folder, and the values of `enabled_test_cases` and `tb path`.
+//! - The exit: the code, the output and the results, or `-` without results. The output `*9` stands for nine letters. In
+//!   output and results `~` stands for a line feed.
 
 use base::{Exit, MaybeText, NoMemory, Request, Text, TextList};
 use memory_outside::{Answer, AnswerList};
@@ -35,7 +36,7 @@ pub(super) const OUTPUT: usize = 10;
 
 pub(super) const RESULTS: usize = 11;
 
-/// The two files of the project, in compile order, as they are handed to each child.
+/// The two files of the project in compile order, in the encoding of a child's request.
 static FILES: &[u8] = b"\x02\0\0\0\
 \x03\0\0\0lib\x05\0\0\0p.vhd\x02\0\0\0yz\
 \x03\0\0\0lib\x06\0\0\0tb.vhd\x01\0\0\0v";
@@ -194,7 +195,7 @@ pub(super) fn unfolded(alloc: Global, words: &str) -> Result<Vec<u8>, NoMemory> 
     Ok(out)
 }
 
-/// The bytes of an output, of which at most so many are wanted.
+/// The bytes of an output. An output of `*` and a number has at most `most` bytes.
 pub(super) fn output_of(alloc: Global, words: &str, most: u32) -> Result<Vec<u8>, NoMemory> {
     let Some(count) = words.strip_prefix('*') else {
         return unfolded(alloc, words);
@@ -221,7 +222,7 @@ fn exit_of(alloc: Global, line: &str) -> Result<Exit, NoMemory> {
     })
 }
 
-/// What the children of lines answer.
+/// The answers of the children of lines: each request with its exit.
 pub(super) fn answers_of(alloc: Global, lines: &str) -> Result<AnswerList, NoMemory> {
     let mut answers = AnswerList::new(alloc);
     for line in lines.lines() {

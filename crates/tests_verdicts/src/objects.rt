@@ -188,7 +188,7 @@ fn run_over<K: Records>(
     )
 }
 
-/// The place of an input among others; 200 where it isn't one of them.
+/// The index of an input among others, or 200 if it isn't one of them.
 fn place_of(inputs: &TextList, input: &Text) -> u8 {
     let mut place = 0u8;
     for other in inputs.as_slice() {
@@ -200,7 +200,7 @@ fn place_of(inputs: &TextList, input: &Text) -> u8 {
     200
 }
 
-/// The run that a ticket was started for; 200 where it is none.
+/// The index of the run that a ticket was started for, or 200 if it was not started for a run.
 fn started_run(events: &[Event], inputs: &TextList, ticket: u64) -> u8 {
     match started_for(events, ticket) {
         Some(request) => place_of(inputs, &request.input),
@@ -208,7 +208,7 @@ fn started_run(events: &[Event], inputs: &TextList, ticket: u64) -> u8 {
     }
 }
 
-/// An event as a letter for its kind and the place of its run. A child that wasn't asked what is wanted ends with 127.
+/// An event as a letter for its kind and the index of its run. A child with a request that isn't wanted ends with code 127.
 fn letters(event: &Event, events: &[Event], inputs: &TextList) -> (u8, u8) {
     match event {
         Event::Started { ticket: _, request } => (b'+', place_of(inputs, &request.input)),
@@ -247,7 +247,7 @@ fn word_of(verdict: Option<&Verdict>) -> &'static [u8] {
     }
 }
 
-/// Adds what became of a run: the output that is shown, and a line for each case.
+/// Adds the end of a run: the output that is shown, and a line for each case.
 fn put_end(out: &mut Vec<u8>, end: &RunEnd) -> Result<(), NoMemory> {
     out.extend_from_slice(end.output.bytes())?;
     let mut verdicts = end.verdicts.as_slice().iter();

@@ -15,7 +15,7 @@ use std::test::Fail;
 use store::RequestStore;
 use testbench_runs::TestRunList;
 
-/// Two runs, of which the first passes.
+/// Two runs. The first passes.
 static TWO: &str = "\
 lib|t|a|a||tb.vhd|lib.t.a|a||0||test_start:a~test_suite_done~
 lib|t|a|b||tb.vhd|lib.t.b|b||1||-";
@@ -54,7 +54,7 @@ fn test_disk(
     )
 }
 
-/// What became of the runs, and `none` where a file isn't made; `fault` after a fault.
+/// The ends of the runs, `none` if the build leaves a file that isn't made, or `fault` after a fault.
 fn tell_tested(alloc: Global, tested: &Result<Tested, RunFault>) -> Result<Vec<u8>, NoMemory> {
     match tested {
         Ok(tested) => match &tested.tests {
@@ -65,7 +65,7 @@ fn tell_tested(alloc: Global, tested: &Result<Tested, RunFault>) -> Result<Vec<u
     }
 }
 
-/// Builds and tests over a disk by children, and tells what happened and what became of the runs.
+/// Builds and tests over a disk by children, and returns the events and the ends of the runs.
 fn told_by(
     rt: &impl Abort,
     alloc: Global,

@@ -5,8 +5,9 @@ use std::alloc::Global;
 use std::test::Fail;
 use testbench_runs::{Verdict, verdicts};
 
-/// A row a line: the cases with a comma between two, or `*` for a bench that names none itself; the code; the results
-/// with `~` for a line feed and `^` for a carriage return, or `-` for none; and the verdicts by their first letters.
+/// One row per line, with `|` between its parts: the cases, the code, the results and the wanted verdicts. A comma stands
+/// between two cases; `*` is a bench that names no case itself. In results `~` stands for a line feed and `^` for a carriage
+/// return; `-` stands for missing results. A verdict is its first letter.
 static ROWS: &str = "\
 a|0|-|f
 a,b|0|-|ff

@@ -1,4 +1,4 @@
-//! Runs of small benches, event by event, with what is told of each.
+//! Runs of small benches, event by event, with the wanted output and verdicts of each.
 
 use crate::objects::{Stored, Told, graph_of, is_recorded, told_on, told_runs};
 use crate::plain::{agree, plain_runs};
@@ -55,7 +55,7 @@ fn is(told: &Told, events: &str, text: &str) -> bool {
         && told.text.as_slice() == text.as_bytes()
 }
 
-/// Runs the runs of lines, and compares what is told.
+/// Runs the runs of lines, and compares the events, the output and the verdicts.
 fn goes(
     rt: &impl Abort,
     alloc: Global,

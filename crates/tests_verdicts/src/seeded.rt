@@ -20,7 +20,7 @@ fn put(out: &mut Vec<u8>, parts: &[&[u8]]) -> Result<(), NoMemory> {
     Ok(())
 }
 
-/// The cases of one run: a bench has `c0`, `c1` and so on, of which the run has these.
+/// The cases of one run. The cases of a bench are `c0`, `c1` and so on; the run has `count` of them, from `first` on.
 #[derive(Clone, Copy)]
 struct Cases {
     first: u8,
@@ -124,7 +124,7 @@ fn put_bench(out: &mut Vec<u8>, seed: u32, bench: u8) -> Result<(), NoMemory> {
     }
 }
 
-/// The lines of so many benches.
+/// The lines of `benches` random benches.
 fn lines_of(alloc: Global, seed: u32, benches: u8) -> Result<Vec<u8>, NoMemory> {
     let mut out = Vec::new(alloc);
     for bench in 0..benches {
