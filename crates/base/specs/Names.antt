@@ -13,7 +13,7 @@ is_same_name a b = bytes_eq a.library b.library && bytes_eq a.path b.path
 abbrev pub has_name : List FileName → FileName → Bool
 has_name names name = list_any (λ other. is_same_name other name) names
 
--- a number is no less than the first bound and no more than the second
+-- a number lies between two bounds, both included
 pub record IsBetween (low high n : ℕ) : Type 0 where
   pub at_least : low ≤ n
   pub at_most : n ≤ high

@@ -4,7 +4,7 @@ use Rattle.std.specs.List.{filter_map, position_or_len}
 use Rattle.std.specs.Option.{option_map_or}
 use Rattle.base.specs.declared.graph.Entry.{Entry}
 
--- the positions of a view's files in the graph: those that the file depends on, and the file itself
+-- the positions of a view's files in the graph: the dependencies of the file, then the file itself
 unfoldable pub viewed : List Entry → ℕ → List ℕ
 viewed graph at = option_map_or (λ entry. entry.deps ++ at ∷ []) (slice_get graph at) []
 
@@ -25,7 +25,7 @@ part graph positions = map (renumbered positions) (filter_map (slice_get graph) 
 abbrev pub view : List Entry → ℕ → List Entry
 view graph at = part graph (viewed graph at)
 
--- at least one file, of which the last depends on all others
+-- at least one file, and the last file depends on all others
 pub record IsView (view : List Entry) : Type 0 where
   pub some : 0 < length view
   pub whole : (last rank : ℕ) (other : Entry) → last + 1 ≡ length view → rank < last → Contains (slice_index_or view last other).deps rank
