@@ -70,7 +70,7 @@ short_go_on bytes left after word count i are low e small = record {
 pub short_stop : (bytes left : List ℕ) (count i : ℕ) → AreShort bytes count i left → i < count → text_at left ≡ None → words_at bytes ≡ []
 short_stop bytes left count i are low e = no_words bytes (stops text_at are.words count i left (counted_at text_at bytes) low e are.so_far)
 
--- a longer one is no word of a command
+-- words with one above the limit of length aren't a command within its limits
 pub too_long : (bytes left after word : List ℕ) (count i : ℕ) → AreShort bytes count i left → i < count → text_at left ≡ Some (word, after) → WORD_LIMIT < length word → FitsCommand (words_at bytes) → ⊥
 too_long bytes left after word count i are low e long fits =
     by (many_at text_at (count - (i + 1)) after) (subst (λ (o : Option (List (List ℕ) × List ℕ)). FitsCommand (option_map_or (λ read. read.0) o [])) (sym (goes_on text_at are.words count i left word after (counted_at text_at bytes) low e are.so_far)) fits)

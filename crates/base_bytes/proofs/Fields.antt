@@ -43,7 +43,7 @@ guard_first false r y e = absurd cc
 pub Takes-then : (a x b y c : List ℕ) → Takes a x b → Takes b y c → Takes a (x ++ y) c
 Takes-then a x b y c p q = record { parts = p.parts ∙ ap (λ (t : List ℕ). x ++ t) q.parts ∙ sym (append_assoc x y c); left_are_bytes = q.left_are_bytes }
 
--- where no byte remains, what was read is all that was there
+-- if no byte remains, the spelling that was read is all the bytes
 pub ends_there : (bytes spelling left : List ℕ) → Takes bytes spelling left → eqb (length left) 0 ≡ true → bytes ≡ spelling
 ends_there bytes spelling left t e = t.parts ∙ ap (λ (r : List ℕ). spelling ++ r) (nil_from_length left (eqb-true _ _ e)) ∙ append-nil spelling
 

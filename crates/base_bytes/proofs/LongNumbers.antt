@@ -24,7 +24,7 @@ long_number_at (suc n) (suc index) bytes l =
     long_number_at n index (drop 8 bytes) (omega arith)
     ∙ ap (λ (bs : List ℕ). from_le_bytes w64 (take 8 bs)) (drop-drop (8 * index) 8 bytes ∙ ap (λ (k : ℕ). drop k bytes) (omega arith))
 
--- so many numbers are read where their bytes are there
+-- `n` numbers can be read if there are at least 8 * `n` bytes
 pub many_long : (n : ℕ) (bytes : List ℕ) → 8 * n ≤ length bytes → many_at (number_at w64) n bytes ≡ Some (long_numbers n bytes, drop (8 * n) bytes)
 unfolding many_at long_numbers
 many_long zero bytes long = refl
@@ -42,7 +42,7 @@ many_short (suc n) bytes short = by (nat_lt (length bytes) 8) refl (λ l. many_s
     by true e rest = rw e refl
     by false e rest = rw (e, rest (omega (arith, short, ltb-false _ _ e, length-drop 8 bytes))) refl
 
--- the bytes after so many numbers don't count
+-- `n` numbers depend on the first 8 * `n` bytes only
 pub long_numbers_take : (n : ℕ) (bytes : List ℕ) → long_numbers n (take (8 * n) bytes) ≡ long_numbers n bytes
 unfolding long_numbers
 long_numbers_take zero bytes = refl

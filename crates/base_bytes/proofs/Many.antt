@@ -69,7 +69,7 @@ module _ {X : Type 0} (read : List ℕ → Option (X × List ℕ)) where
       let one : with_prefix prefix (many_at read (count - i) bytes) ≡ Some (prefix, bytes) = rw k (ap (λ (xs : List X). Some (xs, bytes)) (append-nil prefix)) in
       sym so_far ∙ one
 
-  -- where one thing is read as it is spelled
+  -- if a reader takes the spelling of one item, many items take their spellings one after the other
   module _ (spelling : X → List ℕ) (Fits : X → Type 0) where
     pub many_take : ((bytes : List ℕ) (x : X) (left : List ℕ) → AreBytes bytes → read bytes ≡ Some (x, left) → Takes bytes (spelling x) left × Fits x)
         → (n : ℕ) (bytes : List ℕ) (xs : List X) (left : List ℕ) → AreBytes bytes → many_at read n bytes ≡ Some (xs, left) → Takes bytes (flat_map spelling xs) left × (length xs ≡ n) × AllByRecursion Fits xs

@@ -13,7 +13,7 @@ use Rattle.base_bytes.specs.declared.ranges.ByteRange.{ByteRange}
 use Rattle.base_bytes.proofs.LongNumbers.{counted_long, counted_short}
 use Rattle.base_bytes.specs.Ranges.{long_numbers, IsReadAt, IsRangeAt, range_end, ranged}
 
--- a number of so many bytes
+-- reading a number at an offset leaves the bytes from the offset after it on
 pub number_found : (w : Width) (bytes : List ℕ) (at n : ℕ) (left : List ℕ) (next : ℕ) → at ≤ length bytes → number_at w (drop at bytes) ≡ Some (n, left) → next ≡ at + byte_len w → (number_at w (drop at bytes) ≡ Some (n, drop next bytes)) × (at ≤ next) × (next ≤ length bytes)
 number_found w bytes at n left next lt e next_is =
     let g = guard_some (nat_lt (length (drop at bytes)) (byte_len w)) (from_le_bytes w (take (byte_len w) (drop at bytes)), drop (byte_len w) (drop at bytes)) (n, left) e in
@@ -35,7 +35,7 @@ text_found bytes text left at range lt fits e start count =
     ap (λ (n : ℕ). drop n bytes) (omega (arith, start, count)) ∙ sym (drop-drop (length text) (at + 4) bytes) ∙ ap (drop (length text)) after ∙ drop_at text left (length text) refl in
     (e ∙ ap Some (rw (is, rest) refl), omega (arith, start, count), omega (arith, start, count, sizes, lt))
 
--- So many things were read so far, from the number of them on.
+-- Items that were counted at `at` are being read: `prefix` was read before `next`, and `count - i` items follow from there.
 pub record IsCounted {X : Type 0} (read : List ℕ → Option (X × List ℕ)) (bytes : List ℕ) (at count i next : ℕ) : Type 0 where
   pub prefix : List X
   pub so_far : with_prefix prefix (many_at read (count - i) (drop next bytes)) ≡ counted_at read (drop at bytes)

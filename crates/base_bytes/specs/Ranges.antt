@@ -40,7 +40,7 @@ abbrev pub IsReadAt : {X Y : Type 0} → ℕ → (X → Y) → List ℕ → Opti
 IsReadAt at view bytes None read = read ≡ None
 IsReadAt at view bytes (Some found) read = (read ≡ Some (view found.0, drop found.1 bytes)) × (at ≤ found.1) × (found.1 ≤ length bytes)
 
--- so many numbers of eight bytes each
+-- the given number of numbers from the start of bytes, each of eight bytes
 unfoldable pub long_numbers : ℕ → List ℕ → List ℕ
 long_numbers zero bytes = []
 long_numbers (suc n) bytes = from_le_bytes w64 (take 8 bytes) ∷ long_numbers n (drop 8 bytes)

@@ -12,7 +12,7 @@ None >>= f = None
 abbrev pub number_at : Width → List ℕ → Option (ℕ × List ℕ)
 number_at w bytes = if nat_lt (length bytes) (byte_len w) then None else Some (from_le_bytes w (take (byte_len w) bytes), drop (byte_len w) bytes)
 
--- so many bytes from the start, with those that are left, or nothing where fewer are there
+-- the first `count` bytes and the rest, or nothing if there are fewer
 abbrev pub taken_at : ℕ → List ℕ → Option (List ℕ × List ℕ)
 taken_at count bytes = if nat_lt (length bytes) count then None else Some (take count bytes, drop count bytes)
 
@@ -37,7 +37,7 @@ pub record Takes (bytes spelling left : List ℕ) : Type 0 where
   pub parts : bytes ≡ spelling ++ left
   pub left_are_bytes : AreBytes left
 
--- so many things, one after the other
+-- the given number of items, read one after the other, and the rest
 unfoldable pub many_at : {X : Type 0} → (List ℕ → Option (X × List ℕ)) → ℕ → List ℕ → Option (List X × List ℕ)
 many_at read zero bytes = Some ([], bytes)
 many_at read (suc n) bytes = do
@@ -45,7 +45,7 @@ many_at read (suc n) bytes = do
   others ← many_at read n first.1
   Some (first.0 ∷ others.0, others.1)
 
--- a number of four bytes, and so many things after it
+-- a number of four bytes, and after it that number of items
 unfoldable pub counted_at : {X : Type 0} → (List ℕ → Option (X × List ℕ)) → List ℕ → Option (List X × List ℕ)
 counted_at read bytes = do
   n ← number_at w32 bytes
