@@ -63,7 +63,7 @@ module _ (ofs : List ℕ) (of : ℕ) where
   kept_past n bound l None low high here is = absurd (is l low high here)
   kept_past n bound l (Some i) low high here is = kept_some n bound i is
 
-  -- where there is none the new one is the first
+  -- if no earlier element from `bound` on equals the appended one, the appended one is the first
   now_first : (bound : ℕ) → bound ≤ length ofs → ((k : ℕ) → bound ≤ k → k < length ofs → get_or ofs k 0 ≢ of) → IsFirstFrom (ofs ++ of ∷ []) of bound (Some (length ofs))
   now_first bound low none = (low, (omega (arith, longer), (new_at, λ k above high e. none k above high (sym (old_at k high) ∙ e))))
 

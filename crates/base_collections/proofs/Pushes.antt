@@ -4,7 +4,7 @@ use Rattle.std.specs.Prelude.{slice_get}
 use Rattle.std.proofs.lemmas.Option.{get_or_from_slice_get, slice_get_read, slice_get_within}
 
 module _ {X : Type 0} (x : X) where
-  -- what was there is still there
+  -- each element stays at its bucket after one is appended
   pub left_push : (xs : List X) (bucket : ℕ) (y : X) → slice_get xs bucket ≡ Some y → slice_get (xs ++ x ∷ []) bucket ≡ Some y
   left_push [] bucket y at = let never : ⊥ = cc in absurd never
   left_push (z ∷ xs) zero y at = at
@@ -14,7 +14,7 @@ module _ {X : Type 0} (x : X) where
   end_push [] = refl
   end_push (z ∷ xs) = end_push xs
 
-  -- what is there was there, or is the last
+  -- an element of the longer list was at its bucket before, or is the appended one
   pub cases_push : (xs : List X) (bucket : ℕ) (y : X) → slice_get (xs ++ x ∷ []) bucket ≡ Some y → (slice_get xs bucket ≡ Some y) ⊎ ((bucket ≡ length xs) × (x ≡ y))
   cases_push [] zero y at = inr (refl, cc)
   cases_push [] (suc bucket) y at = let never : ⊥ = cc in absurd never

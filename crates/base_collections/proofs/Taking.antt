@@ -1,4 +1,4 @@
--- A key among the others, where it takes the next number if it has none.
+-- The number of a key among others: a known key keeps its number, and a new key takes the next one.
 use Rattle.std.proofs.Common.{◌≡◌, ℕ, Bool, cond, List, [], ◌∷◌, ◌++◌, length, Contains, Some, Option, ap, sym, ◌∙◌}
 use Rattle.std.specs.Prelude.{slice_get}
 use Rattle.std.specs.Bool.{Decides}

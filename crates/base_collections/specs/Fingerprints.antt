@@ -19,7 +19,7 @@ with_segment text fingerprint at = mixed (mixed fingerprint (word_at text at)) (
 unfoldable pub segment_start : ℕ → ℕ → ℕ
 segment_start len segment = segment * ((len - 16) / 15)
 
--- the length, and so many segments
+-- the fingerprint of a text's length and the given number of its segments, from the first on
 unfoldable pub fingerprinted : List ℕ → ℕ → ℕ
 fingerprinted text zero = length text
 fingerprinted text (suc segment) = with_segment text (fingerprinted text segment) (segment_start (length text) segment)

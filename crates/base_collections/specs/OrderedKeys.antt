@@ -19,7 +19,7 @@ pub record TakesNumber {K : Type 0} (key : K) (number : ℕ) (old new : List K) 
 unfoldable pub hash_of : List (List ℕ) → ℕ
 hash_of input = folding.finish (fold folding.write folding.initial input)
 
--- the first of the two buckets of a hash in a table of so many
+-- the first of the two buckets of a hash, in a table with the given number of buckets
 abbrev pub first_of : ℕ → ℕ → ℕ
 first_of buckets hash = hash % buckets
 

@@ -1,4 +1,4 @@
--- What the loop of `add_all` keeps: the words so far are joined, and the others are as they were.
+-- What the loop of `add_all` keeps: the words so far are joined, and the others are unchanged.
 use Rattle.std.proofs.Common.{◌≡◌, ℕ, ◌<◌, ◌≤◌, get_or}
 use Rattle.std.specs.Int.Bits.{bit_or}
 use Rattle.base_collections.proofs.set.PositionSet.add_all.Given as goal
