@@ -11,7 +11,7 @@ pub use Rattle.outside.specs.Commits.{one_if}
 use Rattle.outside.specs.Commits.{HasFirst, most_committed, CommitsFirst, CommitsFirstIn}
 use Rattle.outside.proofs.MomentLaws.{last_is, all_weaker, at_present, joined_moments, weaker_moments, started_moments, loses_nothing, joined_losses}
 
--- what is there at each moment is kept
+-- a property of each image at each later moment stays true
 pub always_stays : (P : Image → Type 0) (disk : DiskState) (later : List DiskState) → AllByRecursion (EachImage P) later → StaysTrue P disk later
 always_stays P disk [] all = tt
 always_stays P disk (next ∷ later) all = ((λ each. all.0), always_stays P next later all.1)
@@ -105,7 +105,7 @@ module _ (acknowledged : ℕ) (broken : Bool) (before : List Record) (records_of
         loses = committed.loses;
       }
 
-  -- what a store is that isn't broken, less is said of
+  -- what holds for a store that isn't broken implies the weaker statement for one that may be broken
   pub commits_weaker : (more : List Record) → CommitsFirst acknowledged false before more records_of old new → CommitsFirst acknowledged broken before more records_of old new
   commits_weaker more committed =
       let most : ℕ = most_committed broken acknowledged in
@@ -150,7 +150,7 @@ most_of_one : (ok : Bool) → most_committed (not ok) (one_if ok) ≡ 1
 most_of_one true = refl
 most_of_one false = refl
 
--- One commit, by what is said of it: `ok` is whether it answered that the record is there.
+-- One commit, from the promises of its call: `ok` is whether the call answered that the record is committed.
 module _ (before : List Record) (one : Record) (records_of : Image → List Record) (old new : Moments) where
   either_first : (now : List Record) → IsEither now before (before ++ one ∷ []) → HasFirst 0 1 before (one ∷ []) now
   either_first now (inl same) = record { count = 0; at_least = omega arith; at_most = omega arith; within = omega arith; are = same ∙ sym (append-nil before) }
@@ -212,7 +212,7 @@ commits_all before more records_of old new committed = λ image is.
     let has = committed.last image is in
     has.are ∙ ap (λ (l : List Record). before ++ l) (take_all has.count more (omega (arith, has.at_least)))
 
--- one commit more, by what is said of it over the records that are there
+-- one more commit, from the promises of its call, after new records that are committed already
 pub commits_one_more : (before xs : List Record) (one : Record) (now : List Record) (records_of : Image → List Record) (old middle new : Moments) → now ≡ before ++ xs → CommitsFirst (length xs) false before xs records_of old middle → AreSound new
     → AtAnyMoment middle new (λ image. IsEither (records_of image) now (now ++ one ∷ [])) → NeverLoses middle new (λ image. records_of image ≡ now ++ one ∷ []) → (ok : Bool) → OnTrue ok (EachImage (λ image. records_of image ≡ now ++ one ∷ []) new.now)
     → CommitsFirst (length xs + one_if ok) (not ok) before (xs ++ one ∷ []) records_of old new

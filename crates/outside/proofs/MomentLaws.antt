@@ -1,4 +1,4 @@
--- How what is said of one call or run goes on to the next, for plain moments.
+-- How promises about the moments of one call or run extend over the next call or run, for plain moments.
 use Rattle.std.proofs.Common.{◌≡◌, List, [], ◌∷◌, ◌++◌, length, drop, refl, sym, ap, subst, ◌∙◌, append_assoc}
 use Rattle.std.specs.List.{AllByRecursion}
 use Rattle.std.proofs.Math.Seq.{drop-append_seam}

@@ -63,7 +63,7 @@ AnswersPath (Given path) found = Unit {0}
 abbrev pub AnswersStartedPath : List Event → Ended → Type 0
 AnswersStartedPath journal end = IfSome (started_with end.ticket journal) (λ request. AnswersPath request.results end.exit.results)
 
--- at most so many bytes, where there is a text
+-- a text, if one is given, has at most `limit` bytes
 abbrev pub IsShort : ℕ → MaybeText → Type 0
 IsShort limit Nothing = Unit {0}
 IsShort limit (Given bytes) = length bytes ≤ limit

@@ -12,8 +12,8 @@ pub record HasFirst (low high : ℕ) (before more now : List Record) : Type 0 wh
   pub within : count ≤ length more
   pub are : now ≡ before ++ take count more
 
--- The most commits that an image has: those that are acknowledged, and one more while the store is broken, since the one
--- that failed may be on the disk.
+-- The most commits that an image has: the acknowledged ones, and one more while the store is broken. The commit that
+-- failed may be on the disk.
 abbrev pub most_committed : (broken : Bool) (acknowledged : ℕ) → ℕ
 most_committed true acknowledged = acknowledged + 1
 most_committed false acknowledged = acknowledged
@@ -23,9 +23,9 @@ abbrev pub one_if : Bool → ℕ
 one_if true = 1
 one_if false = 0
 
--- A prefix of new records is committed, of which so many are acknowledged. At any moment an image has the records from
--- before with a prefix of the new ones. In the end each image has all that are acknowledged. Once each image has a
--- number of records, none has fewer.
+-- A prefix of new records is committed, and `acknowledged` counts the acknowledged ones. At any moment an image has the
+-- records from before with a prefix of the new ones. In the end each image has all acknowledged records. Once each image
+-- has at least a number of records, no later image has fewer.
 pub record CommitsFirst (acknowledged : ℕ) (broken : Bool) (before more : List Record) (records_of : Image → List Record) (old new : Moments) : Type 0 where
   pub any_moment : AtAnyMoment old new (λ image. HasFirst 0 (most_committed broken acknowledged) before more (records_of image))
   pub last : EachImage (λ image. HasFirst acknowledged (most_committed broken acknowledged) before more (records_of image)) new.now

@@ -4,9 +4,10 @@ use Rattle.std.specs.List.{AllByRecursion}
 use Rattle.outside.specs.declared.disk.Side.{Side}
 use Rattle.outside.specs.declared.disk.Side.TheVariants.{A, B}
 
--- A side at a moment: what reads give; its bytes after the last sync that answered Ok; the least and the greatest
--- length that it had or was being given since then; and of each write since then where it began, and its number of
--- bytes, the last one first. A write that failed or didn't end counts too.
+-- A side at a moment. `reads` is what reads give, and `synced` has the bytes after the last sync that answered Ok. `low`
+-- and `high` are the least and the greatest length that the side had or was being given since then. `touched` has the
+-- offset and the number of bytes of each write since then, the last write first. A write that failed or didn't end counts
+-- too.
 pub record SideState : Type 0 where
   pub reads : List ℕ
   pub synced : List ℕ

@@ -1,4 +1,4 @@
--- The counts of faults that the outside objects of a run keep, and that none of them falls.
+-- The counts of faults that the outside objects of a run keep, and when no count has fallen.
 use Rattle.std.specs.Prelude.{ℕ, ◌≤◌}
 use Rattle.outside.specs.declared.tree.Tree as tree
 use Rattle.outside.specs.declared.disk.Disk as disk

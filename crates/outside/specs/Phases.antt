@@ -7,8 +7,8 @@ use Rattle.outside.specs.Disks.{DiskState, Image, IsImage, reads_of, EachImage, 
 use Rattle.outside.specs.Records.{IsAllOrLatest}
 use Rattle.outside.specs.Commits.{last_state, CommitsFirstIn}
 
--- once both sides are synced an image has what reads gave before the run, or the latest of each name alone; and where the
--- store is emptied, it may have none
+-- Once both sides are synced, an image has the records that reads gave before the run, or only the latest of each name.
+-- If the run empties the store, an image may also have no records.
 abbrev pub IsSettled : (Image → List Record) → (clean : Bool) → DiskState → Image → Type 0
 IsSettled records_of clean first image = IsAllOrLatest (records_of (reads_of first)) (records_of image) ⊎ ((clean ≡ true) × (records_of image ≡ []))
 
@@ -20,12 +20,13 @@ pub record IsOpening (records_of : Image → List Record) (clean : Bool) (first 
   pub fewer : Shrinks first syncing
   pub settles : AllByRecursion (EachImage (IsSettled records_of clean first)) (last_state first syncing ∷ settling)
 
--- the records that commits are added to: none in a store that was emptied, and else those that reads gave
+-- The records that commits are added to: no records if the store was emptied. Otherwise they are the records that reads
+-- gave before the run, or only the latest of each name.
 abbrev pub IsBase : (Image → List Record) → (clean : Bool) → DiskState → List Record → Type 0
 IsBase records_of true first base = base ≡ []
 IsBase records_of false first base = IsAllOrLatest (records_of (reads_of first)) base
 
--- a disk is opened, and then a prefix of new records is committed, of which so many are acknowledged
+-- A disk is opened. Then a prefix of new records is committed, and `acknowledged` counts the acknowledged ones.
 pub record IsCommitting (records_of : Image → List Record) (clean : Bool) (acknowledged : ℕ) (broken : Bool) (more : List Record) (first : DiskState) (later : List DiskState) : Type 0 where
   pub opening : List DiskState
   pub committing : List DiskState
@@ -35,8 +36,8 @@ pub record IsCommitting (records_of : Image → List Record) (clean : Bool) (ack
   pub from : IsBase records_of clean first base
   pub commits : CommitsFirstIn acknowledged broken base more records_of (last_state first opening) committing
 
--- A run came as far as it came: its disk was never settled, or opened alone, or records were committed to it. So many of
--- them are acknowledged.
+-- How far a run came: its disk was never settled, or was only opened, or records were committed to it. `acknowledged`
+-- counts the acknowledged records; it is 0 in the first two cases.
 pub data HasPhases (records_of : Image → List Record) (clean : Bool) (acknowledged : ℕ) (more : List Record) (first : DiskState) (later : List DiskState) : Type 0 where
   unopened : acknowledged ≡ 0 → Shrinks first later → HasPhases records_of clean acknowledged more first later
   opened : acknowledged ≡ 0 → IsOpening records_of clean first later → HasPhases records_of clean acknowledged more first later

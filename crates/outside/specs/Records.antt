@@ -1,5 +1,5 @@
--- Records of compiled files: what a compiler was asked and what it gave, the latest record of a name, and which files have one of
--- what would be asked for them now.
+-- Records of compiled files: what a compiler was asked and the artefact that it gave, and the latest record of a name.
+-- Also which files have a record of the request that would be made for them now.
 use Rattle.std.specs.Prelude.{◌≡◌, ◌⊎◌, ℕ, Bool, List, [], ◌∷◌, map, slice_get, All, Option, Some, None, Result, Ok, Err, if◌then◌else◌}
 use Rattle.std.specs.Option.{option_or, option_map_or}
 use Rattle.std.specs.List.{list_any}
@@ -13,8 +13,8 @@ use Rattle.base.specs.Jobs.{compile_input}
 use Rattle.base.specs.Names.{is_same_name}
 use Rattle.outside.specs.Disks.{DiskState, Image, IsImage}
 
--- What a compiler is asked: command, file, text and artefacts. It has the files that the file depends on as they were
--- built, in graph order.
+-- What a compiler is asked: the command, the file's name and its text. `below` has the dependencies of the file with
+-- their artefacts, in graph order.
 pub record Asked : Type 0 where
   pub command : List (List ℕ)
   pub name : FileName
@@ -30,7 +30,7 @@ pub record Record : Type 0 where
 abbrev pub request_of : Asked → Request
 request_of asked = record { command = asked.command; input = compile_input asked.name asked.text asked.below; results = Nothing }
 
--- what is asked for a file of a graph over files that were built
+-- what a compiler is asked for a file of a graph, given the built files that it depends on
 abbrev pub asked_of : Entry → List BuiltFile → Asked
 asked_of entry built = record { command = entry.command; name = entry.name; text = entry.text; below = built }
 

@@ -20,7 +20,7 @@ IsTaken limit TooLong = Unit {0}
 abbrev pub is_line_feed : ℕ → Bool
 is_line_feed byte = byte == 10
 
--- the first line of an input: the bytes before its first line feed, or all bytes where it has none
+-- the first line of an input: the bytes before its first line feed, or all bytes if it has no line feed
 abbrev pub first_line : List ℕ → List ℕ
 first_line input = before_first is_line_feed input
 

@@ -1,4 +1,4 @@
--- A tree is a finite map from paths to bytes: which of its paths are listed, what is read, what was asked for.
+-- A tree is a finite map from paths to bytes: which of its paths are listed, what reads give, and which paths they asked for.
 use Rattle.std.specs.Prelude.{◌≡◌, ◌↔◌, ◌⊎◌, ℕ, ◌≤◌, Bool, not, ◌&&◌, ◌==◌, nat_le, List, [], ◌∷◌, ◌++◌, length, codes, IsTrue, Option, Some, None, IsSome, Result, Ok, Err, Contains, if◌then◌else◌}
 use Rattle.std.specs.List.{AllByRecursion, starts_with, slice_split, list_all}
 use Rattle.std.specs.Ordering.{nat_cmp}
@@ -32,7 +32,7 @@ pub record IsName (path : List ℕ) : Type 0 where
   pub short : length path ≤ PATH_LIMIT
   pub text : IsUtf8 path
 
--- the form of a listing, whatever the tree holds: at most so many paths, rising, each of which may be listed
+-- the form of a listing, whatever the tree holds: at most `limit` paths, rising, each of which may be listed
 abbrev pub IsListing : ℕ → NamesEnd → Type 0
 IsListing limit (names.Got paths) = (length paths ≤ limit) × IsRising paths × AllByRecursion IsName paths
 IsListing limit names.TooMany = Unit {0}
