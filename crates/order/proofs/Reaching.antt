@@ -57,7 +57,7 @@ module _ (edges : List (List ℕ)) (order : List ℕ) (is : IsBuildOrder edges o
       let low : before.0 < rank = omega (arith, before.1, length-take-le rank order (omega (arith, lt))) in
       (before.0, low, get_or_default order before.0 0 dep (omega (arith, lt)) ∙ sym (get_or-take rank order before.0 dep low) ∙ before.2)
 
-  -- so many steps are enough that the rank of a file is no greater
+  -- all numbers of steps that are at least a file's rank give the same answer
   settled : (s t rank other : ℕ) → rank < length order → rank ≤ s → rank ≤ t → reaches_within edges s (get_or order rank 0) other ≡ reaches_within edges t (get_or order rank 0) other
   unfolding reaches_within
   settled zero zero rank other lt low high = refl

@@ -109,7 +109,7 @@ waits_done old new file lt w m u count deps waits before after is fresh grown = 
   users = λ dep k below low does. ap (λ (xs : List (List ℕ)). times k (get_or xs dep [])) u ∙ is.users dep k below low does;
 }
 
--- the listed files are those that are ready
+-- a file is listed if and only if it is ready
 pub listed_when : (files : ReadyFiles) → AreReady (has files.ready) files.waiting.items files.missing.items → (count : ℕ) (deps : ℕ → List ℕ) (waits done : ℕ → Bool) → AreWaitingFiles files count deps waits done
     → (file : ℕ) → file < count → is_listed files file ≡ is_ready deps waits done file
 unfolding is_listed

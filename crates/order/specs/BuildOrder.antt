@@ -1,6 +1,6 @@
--- The order of the files of a project by what they depend on (IEEE Std 1076-2008, clause 13.5: a unit is analysed after
--- the units that it refers to; the choice among files that could be next is this project's own), and the cycle that is
--- reported where there is no order. A file is named by its position in the project.
+-- The compile order of the files of a project, and the cycle that is reported if no order exists. A unit is analysed
+-- after the units that it refers to (IEEE Std 1076-2008, clause 13.5). The choice among files that could be next is this
+-- project's own. A file is named by its position in the project.
 use Rattle.std.specs.Prelude.{◌≡◌, ◌≢◌, ℕ, zero, suc, ◌+◌, ◌<◌, ◌≤◌, ◌==◌, Bool, not, ◌&&◌, if◌then◌else◌, Option, Some, None, Result, Ok, Err, List, [], ◌∷◌, ◌++◌, length, take, drop, All, AllPairs, Contains, slice_index, slice_index_or}
 use Rattle.std.specs.List.{find, list_any, list_all}
 use Rattle.std.specs.List.Sorted.{IsStrictlyIncreasing}
@@ -26,7 +26,7 @@ pub record AreEdges (edges : List (List ℕ)) : Type 0 where
 
 -- ## The order
 
--- the file is among those that were taken
+-- the file was taken
 abbrev pub has_taken : List ℕ → ℕ → Bool
 has_taken taken file = list_any (λ other. file == other) taken
 
@@ -38,12 +38,12 @@ can_take edges taken file = not (has_taken taken file) && list_all (has_taken ta
 unfoldable pub first_free : List (List ℕ) → List ℕ → Option ℕ
 first_free edges taken = find (can_take edges taken) (below (length edges))
 
--- the files that were taken, with one more where there is one
+-- the files that were taken, and the next one, if any
 abbrev pub with_taken : List ℕ → Option ℕ → List ℕ
 with_taken taken (Some file) = taken ++ file ∷ []
 with_taken taken None = taken
 
--- the files that are taken in so many steps: again and again the first that can be
+-- the files that are taken in the given number of steps: each step takes the first file that can be taken, if any
 unfoldable pub taken_after : List (List ℕ) → ℕ → List ℕ
 taken_after edges zero = []
 taken_after edges (suc steps) = with_taken (taken_after edges steps) (first_free edges (taken_after edges steps))
@@ -62,8 +62,8 @@ first_untaken edges taken = option_map_or (λ file. file) (find (λ file. not (h
 unfoldable pub untaken_dep : List (List ℕ) → List ℕ → ℕ → ℕ
 untaken_dep edges taken file = option_map_or (λ dep. dep) (find (λ dep. not (has_taken taken dep)) (deps_in edges file)) file
 
--- from a file on to the next again and again, for at most so many steps, until one comes that was passed before: what was
--- passed since that file came first
+-- The loop that is met when `next` is followed from a file: the files from the first visit of a file up to its second.
+-- It is empty if no file was passed before within the given number of steps.
 unfoldable pub repeated : (ℕ → ℕ) → ℕ → List ℕ → ℕ → List ℕ
 repeated next zero passed file = []
 repeated next (suc steps) passed file = if has_taken passed file then drop (rank_in passed file) passed else repeated next steps (passed ++ file ∷ []) (next file)
@@ -79,10 +79,9 @@ pub data FileOrder : Type 0 where
   Ordered : List ℕ → FileOrder
   Cyclic : List ℕ → FileOrder
 
--- All files in compile order, or a cycle. Again and again the first file in project order is taken all of whose
--- dependencies were taken. Where some can't be taken, the way goes from the first of them to the first of its
--- dependencies that wasn't taken, and so on, until a file comes again; the cycle is what was passed since it came
--- first.
+-- All files in compile order, or a cycle. Each step takes the first file in project order whose dependencies were all
+-- taken. If some files can't be taken, a path starts at the first of them. Each file on the path is followed by its first
+-- dependency that wasn't taken, until a file comes again. The cycle is the path from the first visit of that file on.
 unfoldable pub file_order : List (List ℕ) → FileOrder
 file_order edges = if length (all_taken edges) == length edges then Ordered (all_taken edges) else Cyclic (reported_cycle edges)
 

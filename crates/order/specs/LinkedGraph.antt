@@ -8,7 +8,7 @@ use Rattle.base.specs.declared.limits.TheConstants.{TEXT_LIMIT, GRAPH_TEXT_LIMIT
 use Rattle.base.specs.PresentGraph.{below}
 use Rattle.order.specs.BuildOrder.{deps_in}
 
--- a file depends on another in at most so many steps, and at least one
+-- a file depends on another in at least one step, and at most the given number of steps
 unfoldable pub reaches_within : List (List ℕ) → ℕ → ℕ → ℕ → Bool
 reaches_within edges zero file other = false
 reaches_within edges (suc steps) file other = list_any (λ dep. dep == other || reaches_within edges steps dep other) (deps_in edges file)

@@ -1,4 +1,4 @@
--- What is left to be taken after some files were.
+-- Which files remain to be taken after some were taken.
 use Rattle.std.specs.Prelude.{◌≡◌, ℕ, ◌<◌, nat_lt, Bool, not, false, if◌then◌else◌, List, [], length, slice_index_or}
 use Rattle.order.specs.BuildOrder.{deps_in, has_taken}
 use Rattle.order.specs.Waits.{AreWaitingFiles}

@@ -16,9 +16,9 @@ wait_count files = count_by (λ waits. waits) files.waiting.items
 unfoldable pub is_listed : ReadyFiles → ℕ → Bool
 is_listed files file = has files.ready file
 
--- The lists are those of so many files with these dependencies. They hold which files wait, how many of the
--- dependencies of each aren't done, and who uses it. Where c depends on a and b, and none is done, a and b are ready,
--- and of c 2 are undone; after both are done, c is ready.
+-- The lists of `count` files with these dependencies: which files wait, how many dependencies of each waiting file aren't
+-- done, and which waiting files use a file. Example: c depends on a and b, and no file is done. Then a and b are ready,
+-- and 2 dependencies of c aren't done. After both are done, c is ready.
 pub record AreWaitingFiles (files : ReadyFiles) (count : ℕ) (deps : ℕ → List ℕ) (waits done : ℕ → Bool) : Type 0 where
   pub as_many : file_count files ≡ count
   pub waiting : (file : ℕ) → file < count → slice_index_or files.waiting.items file false ≡ waits file
