@@ -1,5 +1,5 @@
--- Which files of a project depend on which (IEEE Std 1076-2008, clauses 13.1, 13.2 and 13.5; which references count, and
--- that a project names pairs of its own, is this project's choice), and what is wrong with the names of its units.
+-- Which files of a project depend on which (IEEE Std 1076-2008, clauses 13.1, 13.2 and 13.5), and the faults in the names
+-- of its units. Which references count, and that a project names pairs of its own, is this project's choice.
 use Rattle.std.specs.Prelude.{ℕ, suc, Bool, true, false, ◌&&◌, ◌||◌, not, ◌==◌, if◌then◌else◌, Option, Some, None, Result, Ok, Err, List, [], ◌∷◌, ◌++◌, length, map, filter, codes}
 use Rattle.std.specs.List.{find, flat_map, list_any, filter_map}
 use Rattle.std.specs.Option.{option_map, option_map_or, option_or}
@@ -82,7 +82,7 @@ is_alike unit other =
     || is_architecture unit.scope.library (owner_name unit.scope.unit.owner) unit.scope.unit.name other && is_architecture_kind unit.scope.unit.kind
     || is_body unit.scope.library unit.scope.unit.name other && is_body_kind unit.scope.unit.kind
 
--- a unit as it is named where there are two of it
+-- the name by which a duplicate unit is reported
 abbrev pub spelled_by : List ℕ → DesignUnit → UnitKind → List ℕ
 spelled_by library unit kinds.Architecture = library ++ (codes "." ++ (owner_name unit.owner ++ (codes "(" ++ (unit.name ++ codes ")"))))
 spelled_by library unit kinds.PackageBody = codes "body " ++ (library ++ (codes "." ++ unit.name))
@@ -165,7 +165,7 @@ refers_to project units user used =
 abbrev pub depends_on : Project → List LinkUnit → ℕ → ℕ → Bool
 depends_on project units user used = not (user == used) && (refers_to project units user used || list_any (λ pair. pair.user == user && pair.used == used) project.depends)
 
--- of each file of a project those that it depends on, rising
+-- for each file of a project, the files that it depends on, rising
 abbrev pub edges_of : Project → List LinkUnit → List (List ℕ)
 edges_of project units = map (λ user. filter (depends_on project units user) (below (length project.files))) (below (length project.files))
 

@@ -142,7 +142,7 @@ named_refs text tokens unit = map (ref_at text tokens unit.kind) (indices (is_re
 abbrev pub work : List ℕ
 work = codes "work"
 
--- the name of a unit's owner, empty where it has none
+-- the name of a unit's owner, empty if the unit has no owner
 abbrev pub owner_name : MaybeText → List ℕ
 owner_name Nothing = []
 owner_name (Given name) = name
@@ -176,8 +176,8 @@ structural_by text tokens unit _ = []
 
 -- The references of a unit: first the one by its structure, if there is one, and then those by name in its context
 -- part and its tokens, in order. In `context work.ctx; package w is constant k : integer := other.q.c; end;` the
--- package has `work.ctx`, strict, at token 1, and `other.q`, loose, at token 14; `q.c` is none, since a `.` is before
--- `q`.
+-- package has `work.ctx`, strict, at token 1, and `other.q`, loose, at token 14. `q.c` isn't a reference, since a `.`
+-- is before `q`.
 abbrev pub refs_of : List ℕ → List Token → DesignUnit → List Ref
 refs_of text tokens unit = structural_by text tokens unit unit.kind ++ named_refs text tokens unit
 

@@ -192,7 +192,7 @@ pub record IsRight (text : List ℕ) (last : Option Token) (at : ℕ) (lexical_e
   pub first : lexical_element.row ≡ row_at text last at
   pub longest : IsLongest lexical_element.row text at lexical_element.end
 
--- the token that a lexical element is, if it is none, no token
+-- the token of a lexical element, or an empty list if the element isn't a token
 abbrev pub token_of : Row → ℕ → ℕ → List Token
 token_of (token kind) start end = record { kind = kind; start = start; end = end } ∷ []
 token_of _ start end = []

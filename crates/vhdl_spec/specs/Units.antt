@@ -71,7 +71,7 @@ symbol_role byte =
     else (if byte == 59 then Semicolon
     else Other)))))
 
--- the role of a token by its kind; literals and ticks have none of their own
+-- the role of a token by its kind; literals, ticks and `High` tokens have the role `Other`
 abbrev pub kind_role : List ℕ → Token → TokenKind → Role
 kind_role text token Word = word_role (lower_case (slice_range text token.start token.end))
 kind_role text token Extended = Name
@@ -225,7 +225,7 @@ pub record IsEndPart (roles : List Role) (start last : ℕ) : Type 0 where
   pub ends : IsPlainEnd roles close
   pub semicolon : IsFirstSemicolon roles (close + 1) last
 
--- NAMEs joined by `.`: so many before the last, and an `is` after it
+-- NAMEs joined by `.`: `before` of them before the last, and an `is` after the last
 pub record IsOwner (roles : List Role) (start before : ℕ) : Type 0 where
   pub names : (n : ℕ) → n ≤ before → role_at roles (start + 2 * n) ≡ Name
   pub dots : (n : ℕ) → n < before → role_at roles (start + 2 * n + 1) ≡ Dot

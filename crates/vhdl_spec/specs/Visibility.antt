@@ -2,7 +2,7 @@
 -- `work` and `std` is this project's own choice).
 --
 -- Sets of names grow in steps: a name is in the set of a step where the test of that step says so. The visible libraries
--- are the sets after so many steps that none grows any more.
+-- are the sets after enough steps that no set grows any more.
 use Rattle.std.specs.Prelude.{ℕ, zero, suc, ◌*◌, Bool, true, false, ◌&&◌, ◌||◌, not, if◌then◌else◌, List, [], ◌∷◌, ◌++◌, length, map, codes, IsTrue, Contains}
 use Rattle.std.specs.List.{flat_map, list_any}
 use Rattle.std.specs.Str.{bytes_eq}
@@ -117,7 +117,7 @@ has_by_context units sets user name = not (is_implicit name) && list_any (λ ref
 abbrev pub grown : List ScopeUnit → Sets → Sets
 grown units sets user name = sets user name || has_by_owner units sets user name || has_by_context units sets user name
 
--- The sets after so many steps. First a unit has `work`, `std` and the names of its own clauses; each step adds what
+-- The sets after the given number of steps. First a unit has `work`, `std` and the names of its own clauses; each step adds what
 -- the units that it belongs to have, and what the context declarations that it refers to hand on. An architecture of
 -- an entity with `library other;` before it has `other` after one step. Two contexts that refer to each other, one
 -- with `library l;` inside and one with `library m;`, both have `l` and `m` after one step.
