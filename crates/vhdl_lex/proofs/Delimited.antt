@@ -78,7 +78,7 @@ module _ (delimiter : ℕ) (text : List ℕ) (start : ℕ) where
         (order (at + 1) end),
   )
 
-  -- a delimiter that is no pair's first is the furthest
+  -- a delimiter that isn't followed by a second one is the furthest end
   pub furthest_here : (at : ℕ) → Inside delimiter text (start + 1) at → at < length text → slice_index text at ≡ delimiter → slice_index text (at + 1) ≢ delimiter → IsDelimitedEnd delimiter text start (Some (at + 1))
   furthest_here at inside within first other = (
     omega arith,

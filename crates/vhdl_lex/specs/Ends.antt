@@ -10,12 +10,12 @@ pub record IsRunEnd (test : ℕ → Bool) (text : List ℕ) (start end : ℕ) : 
   pub each : EachByte test text start end
   pub stops : end < length text → test (slice_index text end) ≡ false
 
--- the end of the block comment that opens at an offset, or none where it has none
+-- the end of the block comment that opens at an offset, or `None` if there is no such comment
 abbrev pub IsCommentEnd : List ℕ → ℕ → Option ℕ → Type 0
 IsCommentEnd text at None = (end : ℕ) → IsBlockComment text at end → ⊥
 IsCommentEnd text at (Some end) = (end ≤ length text) × IsBlockComment text at end × ((other : ℕ) → IsBlockComment text at other → other ≤ end)
 
--- the furthest end of what opens with the delimiter at an offset, or none where it has none
+-- the furthest end of what opens with the delimiter at an offset, or `None` if it has no end
 abbrev pub IsDelimitedEnd : ℕ → List ℕ → ℕ → Option ℕ → Type 0
 IsDelimitedEnd delimiter text at None = (end : ℕ) → IsDelimited delimiter text at end → ⊥
 IsDelimitedEnd delimiter text at (Some end) = (end ≤ length text) × IsDelimited delimiter text at end × ((other : ℕ) → IsDelimited delimiter text at other → other ≤ end)

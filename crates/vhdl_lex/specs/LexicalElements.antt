@@ -24,7 +24,7 @@ abbrev pub LastIsIn : List ℕ → Option Token → Type 0
 LastIsIn text None = Unit {0}
 LastIsIn text (Some last) = LiesIn text last
 
--- gaps that are no line comments are from one offset up to another
+-- gaps without a line comment reach from one offset up to a later one
 pub record Skips (text : List ℕ) (last : Option Token) (at end : ℕ) : Type 0 where
   pub lexical_elements : List LexicalElement
   pub leads : Leads text (record { last = last; at = at }) lexical_elements (record { last = last; at = end })

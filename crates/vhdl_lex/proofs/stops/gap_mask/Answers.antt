@@ -1,4 +1,4 @@
--- A lane stops where its byte is no blank.
+-- A lane stops where its byte isn't a blank.
 use Rattle.std.proofs.Common.{ℕ, leb, cond, bit_and, refl}
 use Rattle.std.proofs.lemmas.Simd.{zip2_splat, length-chunk}
 use lib.Lanes.{chunk}
