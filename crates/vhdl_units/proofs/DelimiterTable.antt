@@ -26,7 +26,7 @@ pub record Filled (roles : List Role) (nearest delimiters : List ℕ) (level at 
   pub delimiters_are : AreDelimiters roles at delimiters
 
 module _ (roles : List Role) (nearest delimiters : List ℕ) (level offset : ℕ) (filled : Filled roles nearest delimiters level (offset + 1)) where
-  -- a token that is no delimiter
+  -- a token that isn't a delimiter
   nearest_on : role_at roles offset ≢ Is → role_at roles offset ≢ Semicolon → AreNearest roles offset nearest
   nearest_on no_is no_semicolon = record {
     entries = filled.nearest_are.entries;

@@ -4,8 +4,8 @@ use Rattle.base.specs.declared.design.Role.{Role}
 use Rattle.base.specs.declared.design.Role.TheVariants.{Is, Semicolon, Function, Procedure}
 use Rattle.vhdl_spec.specs.Units.{role_at, is_opening, is_closing}
 
--- the parentheses that open before a token and those that close from it on: as many at two tokens of one depth, and never
--- more than the file has tokens
+-- The number of parentheses that open before a token or close from it on. It is the same for two tokens of one depth, and
+-- never more than the number of tokens in the file.
 abbrev pub level_at : List Role → ℕ → ℕ
 level_at roles at = count_by is_opening (take at roles) + count_by is_closing (drop at roles)
 

@@ -12,7 +12,7 @@ abbrev pub IsSemicolonFrom : List Role → ℕ → Option ℕ → Type 0
 IsSemicolonFrom roles start None = (at : ℕ) → IsFirstSemicolon roles start at → ⊥
 IsSemicolonFrom roles start (Some at) = IsFirstSemicolon roles start at
 
--- how many NAMEs of an owner come before its last, or none where there is no owner
+-- how many NAMEs of an owner come before its last, or `None` if there is no owner
 abbrev pub IsOwnerFrom : List Role → ℕ → Option ℕ → Type 0
 IsOwnerFrom roles start None = (before : ℕ) → IsOwner roles start before → ⊥
 IsOwnerFrom roles start (Some before) = IsOwner roles start before

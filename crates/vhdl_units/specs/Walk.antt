@@ -14,7 +14,7 @@ pub record AreCounts (roles : List Role) (start at : ℕ) (counts : Counts) : Ty
   pub opened : counts.opened ≡ count_by is_opening (slice_range roles start at)
   pub closed : counts.closed ≡ count_by is_closing (slice_range roles start at)
 
--- what is known is right, of tokens that aren't past one
+-- the facts that the walk knows are right, and concern only tokens up to `at`
 pub record IsKnown (roles : List Role) (start at : ℕ) (known : Known) : Type 0 where
   pub counts : AreCounts roles start known.counted known.counts
   pub counted : known.counted ≤ at
