@@ -10,7 +10,7 @@ use Rattle.testbench_select.specs.Segments.{is_any_bytes, is_right, is_match}
 use Rattle.testbench_select.proofs.Matched.{first_true, second_true, both_true}
 use Rattle.testbench_select.proofs.Parts.{part_is, is_part}
 
--- a test of what is left holds after some number of elements
+-- if a test holds for a suffix of a list, it holds after some number of elements is dropped
 end_is : {X : Type 0} (test : List X → Bool) (xs : List X) → list_any test (ends_of xs) ≡ true → (count : ℕ) × (count ≤ length xs) × (test (drop count xs) ≡ true)
 end_is test [] is = elim (cases_Bool (test [])) [
   | inl t ↦ (0, omega arith, t)

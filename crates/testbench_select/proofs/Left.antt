@@ -1,4 +1,4 @@
--- What is left after a pattern part for any bytes and the pattern parts for one byte each that follow it.
+-- The pattern parts and the name that remain after a `*` and the single-byte pattern parts that follow it.
 use Rattle.std.proofs.Common.{ℕ, ◌≡◌, ◌↔◌, ◌+◌, ◌-◌, ◌≤◌, ◌==◌, ◌&&◌, false, true, List, [], ◌∷◌, ◌++◌, length, drop, arith, sym, ap, subst, ◌∙◌}
 use Rattle.std.specs.Prelude.{nat_le}
 use Rattle.std.proofs.lemmas.List.{drop_all, append-nil, length-append, nil_from_length}

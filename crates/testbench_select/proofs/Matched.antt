@@ -42,7 +42,7 @@ then_rest (p ∷ ps) qs name singles is =
     let more = then_rest ps qs one.rest singles.1 left in
     subst (λ n. (has_prefix (p ∷ ps) n ≡ true) × Matches qs (drop (length (p ∷ ps)) n)) (sym one.begins) (both_true (is_right p one.byte) (has_prefix ps one.rest) one.right more.0, more.1)
 
--- and the other way round
+-- conversely: a name that begins with single-byte pattern parts, and whose rest matches other parts, matches all of them
 pub rest_then : (ps qs : List PatternPart) (name : List ℕ) → Singles ps → has_prefix ps name ≡ true → Matches qs (drop (length ps) name) → Matches (ps ++ qs) name
 unfolding has_prefix
 rest_then [] qs name singles begins is = is

@@ -10,7 +10,8 @@ skipped zero bytes = refl
 skipped (suc taken) [] = refl
 skipped (suc taken) (byte ∷ bytes) = skipped taken bytes
 
--- the pattern parts from an offset on, where the first one takes so many bytes after its own first
+-- the pattern parts from an offset on: one that takes `taken` bytes after its first byte, then those of the bytes that
+-- follow
 pub one_more : (bytes : List ℕ) (at : ℕ) (pattern_part : PatternPart) (taken : ℕ) → at < length bytes → (pattern_part, taken) ≡ first_pattern_part (get_or bytes at 0) (drop (at + 1) bytes)
     → pattern_part ∷ pattern_parts_of (drop (at + (1 + taken)) bytes) ≡ pattern_parts_of (drop at bytes)
 unfolding pattern_parts_after

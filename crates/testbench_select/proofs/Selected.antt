@@ -12,7 +12,7 @@ one_kept : {X Y : Type 0} (name : X → Y) (b : Bool) (x : X) (xs : List X) (ys 
 one_kept {X} {Y} name true x xs ys is = ap (λ (rest : List Y). name x ∷ rest) is
 one_kept name false x xs ys is = is
 
--- names of what is kept are those of all that are kept
+-- the names of the elements whose name passes a test are the names that pass it
 kept_names : {X Y : Type 0} (name : X → Y) (test : Y → Bool) (xs : List X) → map name (filter (λ x. test (name x)) xs) ≡ filter test (map name xs)
 kept_names name test [] = refl
 kept_names name test (x ∷ xs) = one_kept name (test (name x)) x (filter (λ y. test (name y)) xs) (filter test (map name xs)) (kept_names name test xs)

@@ -76,7 +76,7 @@ begins_search bytes at within = ap (λ n. shifted n (before_closing (drop (at + 
   by_size (inl some) = sym (ap set_length (drop_more bytes at 0 some) ∙ some_set (get_or bytes at 0) (drop (at + 1) bytes))
   by_size (inr none) = ap (λ rest. option_map suc (before_closing rest)) (drop_all (at + 1) bytes (omega (arith, none))) ∙ ap (option_map suc) nothing_before ∙ sym (ap set_length (drop_all at bytes none) ∙ no_set)
 
--- where there is no `]` there is none after any bytes of it
+-- if bytes have no `]`, no suffix of them has one
 none_dropped : (bytes : List ℕ) (n : ℕ) → before_closing bytes ≡ None → before_closing (drop n bytes) ≡ None
 none_dropped bytes zero none = none
 none_dropped [] (suc n) none = none

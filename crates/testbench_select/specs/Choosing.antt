@@ -9,7 +9,7 @@ use Rattle.testbench_select.specs.declared.choosing.Choice.{Choice}
 use Rattle.testbench_select.specs.Segments.{is_match}
 use Rattle.testbench_select.specs.Selection.{is_selected}
 
--- a name is among those that are asked for as they are
+-- a name is one of the literal names in a set
 abbrev pub is_asked_for : {S : Type 0} → IndexSet (Vec ℕ Global) S → List ℕ → Bool
 is_asked_for names name = list_any (λ key. bytes_eq name key.items) names.keys
 
@@ -21,7 +21,7 @@ matches_at patterns name number = is_match (slice_index_or patterns number []) n
 abbrev pub some_matches : List (List PatternPart) → List ℕ → List ℕ → Bool
 some_matches patterns numbers name = list_any (matches_at patterns name) numbers
 
--- a name is chosen: all names are, or it is asked for as it is, or one of the other patterns matches it
+-- a name is chosen: every name is, or it is one of the literal names, or one of the other patterns matches it
 abbrev pub is_chosen : List (List PatternPart) → Choice → List ℕ → Bool
 is_chosen patterns choice name = choice.all || (is_asked_for choice.plain name || some_matches patterns choice.others.items name)
 
@@ -29,11 +29,11 @@ is_chosen patterns choice name = choice.all || (is_asked_for choice.plain name |
 abbrev pub AreNumbersOf : List (List PatternPart) → List ℕ → Type 0
 AreNumbersOf patterns numbers = All (λ number. number < length patterns) numbers
 
--- no name that is asked for as it is has more bytes than this
+-- no literal name in a set has more bytes than `longest`
 abbrev pub AreUpTo : {S : Type 0} → IndexSet (Vec ℕ Global) S → ℕ → Type 0
 AreUpTo names longest = (name : List ℕ) → is_asked_for names name ≡ true → length name ≤ longest
 
--- no name that is asked for as it is has more bytes than the choice says
+-- no literal name of a choice has more bytes than its `longest`
 abbrev pub IsBounded : Choice → Type 0
 IsBounded choice = AreUpTo choice.plain choice.longest
 

@@ -2,12 +2,12 @@
 use Rattle.std.specs.Prelude.{Bool, true, false, ◌&&◌, if◌then◌else◌, List, [], ◌∷◌}
 use Rattle.std.specs.List.{list_any}
 
--- what is left of a list after any number of its elements: all of it, .., nothing
+-- the suffixes of a list, from the whole list down to the empty one
 abbrev pub ends_of : {X : Type 0} → List X → List (List X)
 ends_of [] = [] ∷ []
 ends_of (x ∷ xs) = (x ∷ xs) ∷ ends_of xs
 
--- the first element is right, and so are the others
+-- the first element passes one test, and the rest of the list passes the other; false for an empty list
 abbrev pub first_is : {X : Type 0} → (X → Bool) → (List X → Bool) → List X → Bool
 first_is right others [] = false
 first_is right others (x ∷ xs) = right x && others xs

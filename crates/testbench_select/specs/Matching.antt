@@ -1,4 +1,4 @@
--- Which names a pattern matches: those that can be cut into one part for each pattern part, in order.
+-- Which names a pattern matches: a name matches if it can be cut into one part for each pattern part, in order.
 use Rattle.std.specs.Prelude.{◌≡◌, ℕ, ◌≤◌, nat_le, Bool, not, ◌&&◌, if◌then◌else◌, IsTrue, List, [], ◌∷◌, length, take, drop}
 use Rattle.std.specs.List.{list_any}
 use Rattle.testbench_select.specs.declared.pattern.ByteRange.{ByteRange}

@@ -25,7 +25,7 @@ negation = 33
 abbrev pub dash_byte : ℕ
 dash_byte = 45
 
--- `]`, which closes a set where it isn't the first byte of it
+-- `]`, which closes a set unless it is the first byte in it
 abbrev pub closing : ℕ
 closing = 93
 
@@ -54,7 +54,7 @@ unfoldable pub set_length : List ℕ → Option ℕ
 set_length [] = None
 set_length (byte ∷ bytes) = option_map suc (before_closing bytes)
 
--- the set that these bytes begin with, up to a `]`, and how many bytes it takes, after so many that are taken already
+-- the set that ends at the closing `]` of these bytes, and how many bytes it takes, counting the `taken` bytes before these
 unfoldable pub set_after : Bool → ℕ → List ℕ → Option (PatternPart × ℕ)
 set_after negated taken bytes = option_map (λ count. (OneOf negated (ranges_of (take count bytes)), taken + count + 1)) (set_length bytes)
 
@@ -70,7 +70,7 @@ unfoldable pub first_pattern_part : ℕ → List ℕ → PatternPart × ℕ
 first_pattern_part byte bytes =
     if byte == star_byte then (AnyBytes, 0) else (if byte == question then (AnyByte, 0) else (if byte == opening then unwrap_or (opened_set bytes) (Byte opening, 0) else (Byte byte, 0)))
 
--- the pattern parts of bytes after the first so many, which belong to a pattern part already
+-- the pattern parts of bytes, where the first `taken` bytes belong to an earlier pattern part
 unfoldable pub pattern_parts_after : ℕ → List ℕ → List PatternPart
 pattern_parts_after taken [] = []
 pattern_parts_after (suc taken) (byte ∷ bytes) = pattern_parts_after taken bytes

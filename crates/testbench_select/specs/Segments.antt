@@ -54,8 +54,9 @@ pub record IsFirstIndex (pattern_parts : List PatternPart) (name : List ℕ) (at
 abbrev pub HasNoIndex : List PatternPart → List ℕ → Type 0
 HasNoIndex pattern_parts name = (at : ℕ) → at ≤ length name → has_prefix pattern_parts (drop at name) ≡ false
 
--- What is left of pattern parts and a name after a pattern part for any bytes: fewer pattern parts, and they match the rest exactly where
--- all match the name.
+-- The pattern parts and the name that remain after a `*` and the single-byte parts that follow it. No part remains, or the
+-- first one is `*`; fewer parts remain than there were. They match the remaining name exactly if all parts match the whole
+-- name.
 pub record IsWhatRemains (others : List PatternPart) (name : List ℕ) (left : Bor (List PatternPart) × Bor (List ℕ)) : Type 0 where
   pub begins : BeginsAnyBytes left.0.now
   pub fewer : length left.0.now ≤ length others

@@ -43,6 +43,6 @@ selected_bench patterns bench = with_cases bench (selected_cases patterns bench)
 abbrev pub has_cases : Bench → Bool
 has_cases bench = not (length bench.cases == 0)
 
--- of each bench its selected cases, in order, and of the benches those that have one left
+-- the benches with only their selected cases, in order; a bench without a selected case is left out
 abbrev pub selection : List (List PatternPart) → List Bench → List Bench
 selection patterns benches = filter has_cases (map (selected_bench patterns) benches)

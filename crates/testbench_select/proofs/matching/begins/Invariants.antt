@@ -1,4 +1,4 @@
--- What is left of pattern parts and name decides.
+-- The rest of the name begins with the remaining pattern parts exactly if the name begins with all pattern parts.
 use Rattle.std.proofs.Common.{◌≡◌, drop}
 use Rattle.testbench_select.specs.Segments.{has_prefix}
 use Rattle.testbench_select.proofs.matching.begins.Given as goal

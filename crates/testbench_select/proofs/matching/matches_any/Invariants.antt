@@ -1,4 +1,5 @@
--- What is left decides.
+-- The remaining pattern parts match the rest of the name exactly if all pattern parts match the name. No part remains, or
+-- the first one is `*`.
 use Rattle.std.proofs.Common.{◌↔◌, length}
 use Rattle.testbench_select.specs.Matching.{Matches}
 use Rattle.testbench_select.specs.Segments.{BeginsAnyBytes}

@@ -1,4 +1,4 @@
--- The ranges so far, and then those of what is left.
+-- The ranges so far, followed by the ranges of the remaining bytes, are those of the set.
 use Rattle.std.proofs.Common.{◌≡◌, ◌++◌, length}
 use Rattle.testbench_select.specs.Patterns.{ranges_of}
 use Rattle.testbench_select.proofs.reading.ranges.Given as goal

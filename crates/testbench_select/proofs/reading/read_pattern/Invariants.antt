@@ -1,4 +1,4 @@
--- The pattern parts so far, and then those of what is left.
+-- The pattern parts so far, followed by those of the remaining bytes, are those of the pattern.
 use Rattle.std.proofs.Common.{◌≡◌, ◌≤◌, ◌-◌, ◌++◌, length, drop}
 use Rattle.testbench_select.specs.Patterns.{pattern_parts_of}
 use Rattle.testbench_select.proofs.reading.read_pattern.Given as goal
