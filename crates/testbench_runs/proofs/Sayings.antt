@@ -85,7 +85,7 @@ module _ (cases set : List (List ℕ)) (code : ℕ) (text : List ℕ) (said : Sa
   same_verdict : (name : List ℕ) → verdict_by said (eqb code 0 && said.is_done) name ≡ case_verdict (case_starts cases (result_lines text)) (ends_well code (result_lines text)) name
   same_verdict name = rw (has_started name, last_is, adds.is_done) refl
 
-  -- the verdicts by what was said are those of the text
+  -- the verdicts computed from what the lines say are those of the text
   pub verdicts_said : map (verdict_by said (eqb code 0 && said.is_done)) cases ≡ verdicts cases false code (Given text)
   unfolding verdicts
   verdicts_said = ap (λ (f : List ℕ → Verdict). map f cases) (fun_ext same_verdict)

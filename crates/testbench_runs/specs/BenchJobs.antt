@@ -32,7 +32,7 @@ pub record IsBenchJob (job : BenchJob) : Type 0 where
   pub results : length job.results < 2 ^ 32
   pub built : IsBuilt job.built
 
--- what is asked for a run over the files that were built
+-- the job of a run over the built files
 abbrev pub bench_job : TestRun → List BuiltFile → BenchJob
 bench_job run built = record { library = run.library; bench = run.bench; architecture = run.architecture; cases = run.cases; runner_cfg = configuration run; results = results_path run; built = built }
 

@@ -16,7 +16,7 @@ colon_byte = 58
 abbrev pub slash_byte : ℕ
 slash_byte = 47
 
--- bytes in which each that passes a test is there twice
+-- bytes in which each byte that passes a test is doubled
 abbrev pub doubled : (ℕ → Bool) → List ℕ → List ℕ
 doubled test bytes = flat_map (λ byte. if test byte then byte ∷ byte ∷ [] else byte ∷ []) bytes
 
@@ -41,7 +41,7 @@ abbrev pub from_slash : List ℕ → List ℕ
 from_slash [] = []
 from_slash (byte ∷ bytes) = if byte == slash_byte then byte ∷ bytes else from_slash bytes
 
--- a path up to and with its last slash, or nothing where it has none
+-- a path up to and including its last slash, or nothing if it has no slash
 abbrev pub folder_of : List ℕ → List ℕ
 folder_of path = reverse (from_slash (reverse path))
 

@@ -83,7 +83,8 @@ is_name_byte byte = is_ascii_alphanumeric byte || byte == 95 || byte == 45 || by
 abbrev pub hex_digit : ℕ → ℕ
 hex_digit worth = if nat_lt worth 10 then 48 + worth else 87 + worth
 
--- a byte in the name of a folder: as it is, or as `=` and two hexadecimal digits
+-- a byte in the name of a folder: unchanged if it is a letter, a digit, `_`, `-` or `.`; otherwise `=` and two hexadecimal
+-- digits
 unfoldable pub escaped_byte : ℕ → List ℕ
 escaped_byte byte = if is_name_byte byte then byte ∷ [] else 61 ∷ hex_digit (byte / 16) ∷ hex_digit (byte % 16) ∷ []
 

@@ -7,7 +7,7 @@ use Rattle.testbench_runs.specs.declared.ends.Verdict.{Verdict}
 use Rattle.testbench_runs.specs.declared.ends.Verdict.TheVariants.{Passed, Skipped}
 use Rattle.testbench_runs.specs.Verdicts.{case_starts, has_case, passed_if, says_done}
 
--- what lines say: which cases were started, in an order that is no promise; which was the last; and whether all is done
+-- what lines say: which cases were started, in no particular order; which was the last; and whether all is done
 pub record Sayings : Type 0 where
   pub starts : List (List ℕ)
   pub last : Option (List ℕ)

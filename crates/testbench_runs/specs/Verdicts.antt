@@ -89,11 +89,11 @@ run_verdicts run exit = verdicts run.cases run.whole exit.code exit.results
 abbrev pub is_passed : TestRun → Exit → Bool
 is_passed run exit = list_all is_passed_verdict (run_verdicts run exit)
 
--- what became of a run that ended, with the first 4,096 bytes of what it printed
+-- the result of a run that ended: its names, its verdicts, and the first 4,096 bytes of its output
 abbrev pub ended_run : TestRun → Exit → RunEnd
 ended_run run exit = record { names = case_names run; verdicts = run_verdicts run exit; output = take SHOWN_LIMIT exit.output }
 
--- what became of a run that was never started: each case is skipped
+-- the result of a run that was never started: each case is skipped, and there is no output
 abbrev pub unstarted_run : TestRun → RunEnd
 unstarted_run run = record { names = case_names run; verdicts = map (λ name. Skipped) (case_names run); output = [] }
 

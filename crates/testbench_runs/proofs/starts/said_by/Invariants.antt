@@ -1,4 +1,5 @@
--- What holds at each turn of the loop of `said_by`: whatever the rest adds to what was said so far, all lines say.
+-- What holds at each turn of the loop of `said_by`: if the remaining lines are added to what the earlier lines say, the
+-- result is what all lines say.
 use Rattle.std.proofs.Common.{length}
 use Rattle.testbench_runs.specs.Verdicts.{result_lines}
 use Rattle.testbench_runs.specs.Starts.{Adds, Sayings, no_sayings}
