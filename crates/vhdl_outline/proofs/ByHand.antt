@@ -19,7 +19,7 @@ asks_for_more = refl
 asks_apart : is_same_sim (codes "-- vunit : run_all_in_same_sim") ≡ false
 asks_apart = refl
 
--- two quotes are one, and three are no more than two can be
+-- two quotes stand for one
 quoted : unquoted (97 ∷ 34 ∷ 34 ∷ 98 ∷ []) ≡ 97 ∷ 34 ∷ 98 ∷ []
 unfolding unquoted
 quoted = refl

@@ -1,4 +1,4 @@
--- Tests of single tokens, and what is left of a string.
+-- Tests of single tokens, and the value of a string.
 use Rattle.std.proofs.Common.{◌≡◌, ◌↔◌, ℕ, ◌+◌, Bool, true, false, List, refl}
 use Rattle.std.specs.Prelude.{IsTrue}
 use Rattle.std.specs.Str.{bytes_eq}

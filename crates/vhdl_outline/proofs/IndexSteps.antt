@@ -1,4 +1,4 @@
--- The indices of references, and one index more of a walk that keeps indices as they are.
+-- The indices of references, and a walk over one more index that keeps the indices unchanged.
 use Rattle.std.proofs.Common.{◌≡◌, ℕ, ◌+◌, ◌≤◌, Bool, cond, List, [], ◌∷◌, ◌++◌, map, refl, sym, ◌∙◌, ap, append_assoc}
 use Rattle.base.specs.declared.design.Role.{Role}
 use Rattle.vhdl_spec.specs.References.{is_reference, indices}

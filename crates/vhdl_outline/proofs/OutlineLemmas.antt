@@ -49,7 +49,7 @@ mapped_more {X} {Y} f (x ∷ xs) (suc i) y is =
     let next : suc i + 1 ≡ suc (i + 1) = omega arith in
     rw next (ap (λ (rest : List Y). f x ∷ rest) (mapped_more f xs i y is))
 
--- a file with what is kept of its units was added
+-- appending a file with the units, scopes, unresolved references and testbench facts of a scan adds the outline of that scan
 pub added : (text : List ℕ) (scan : Scan) (old new : Outlines) (file : FileOutline) → IsScanOf text scan → file.units ≡ scan.units → file.scopes ≡ map (scope_of text scan) scan.units → UnresolvedAreOf text scan file.unresolved → All (UnresolvedRefsLieIn text) file.unresolved → file.runs ≡ file_runs text scan → All (UnitRunsLieIn text) file.runs.units → new.files ≡ old.files ++ file ∷ [] → HasAdded text scan old new
 added text scan old new file is units scopes are lie runs runs_lie files = record {
   file = file;

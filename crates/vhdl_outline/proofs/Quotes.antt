@@ -1,4 +1,4 @@
--- What is left of a string after one byte.
+-- The unquoted value of a byte followed by the rest of a string.
 use Rattle.std.proofs.Common.{◌≡◌, ℕ, ◌<◌, Bool, true, false, cond, ◌&&◌, List, [], ◌∷◌, length, drop, get_or, refl, sym, ap, rules, tests, arith}
 use Rattle.std.specs.Prelude.{◌==◌}
 use Rattle.vhdl_spec.specs.Tokens.{quote}
@@ -19,7 +19,7 @@ second_false : (a b : Bool) → b ≡ false → (a && b) ≡ false
 second_false true b is = is
 second_false false b is = refl
 
--- a byte that is no quote
+-- a byte other than a quote
 pub after_other : (byte : ℕ) (bytes : List ℕ) → (byte ≡ quote → ⊥) → unquoted (byte ∷ bytes) ≡ byte ∷ unquoted bytes
 unfolding unquoted
 after_other byte [] other = refl

@@ -1,6 +1,6 @@
--- What the tokens of a design unit and the comments of a file say of tests, as VUnit's documentation has it: a test bench
--- has the generic `runner_cfg`, a test case is a call `run("its name")`, and a comment asks for one simulation of all
--- cases. Each is an index among tokens, and is read off the tokens around it.
+-- The testbench facts in the tokens of a design unit and the comments of a file, as VUnit documents them. A test bench has
+-- the generic `runner_cfg`, a test case is a call `run("its name")`, and a comment asks for one simulation of all cases.
+-- Each is at the index of a token, and is recognised by the tokens around it.
 use Rattle.std.specs.Prelude.{ℕ, ◌+◌, ◌-◌, Bool, true, false, ◌&&◌, ◌||◌, ◌==◌, if◌then◌else◌, List, [], ◌∷◌, length, map, drop, slice_range, count_by, codes, Option, is_some, find}
 use Rattle.std.specs.List.{list_any, range_with_len, starts_with}
 use Rattle.std.specs.Option.{option_map_or}

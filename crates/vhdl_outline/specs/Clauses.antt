@@ -1,4 +1,4 @@
--- What is known of the clause of a token by the tokens before it.
+-- The clause that a token is in, determined from the tokens before it.
 use Rattle.std.specs.Prelude.{◌≡◌, ℕ, ◌<◌, ◌≤◌, List, length}
 use Rattle.std.specs.List.{list_any}
 use Rattle.base.specs.declared.design.Role.{Role}

@@ -1,4 +1,4 @@
--- Tokens that are no dots, and tokens that no dot follows.
+-- Tokens other than dots, and tokens that no dot follows.
 use Rattle.std.specs.Prelude.{ℕ, ◌+◌, Bool, List}
 use Rattle.base.specs.declared.design.Role.{Role}
 use Rattle.vhdl_spec.specs.Passing.{HasPassedOver, NonePasses}

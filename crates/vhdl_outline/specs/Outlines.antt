@@ -38,7 +38,8 @@ pub record IsOutlineOf (text : List ℕ) (scan : Scan) (file : FileOutline) : Ty
   pub unresolved : UnresolvedAreOf text scan file.unresolved
   pub runs : file.runs ≡ file_runs text scan
 
--- what is kept of each unit can be read of a text, and there are no more units than bytes
+-- each unit has unresolved references and testbench facts that lie within a text; the text has at least as many bytes as
+-- units
 pub record OutlineLiesIn (text : List ℕ) (file : FileOutline) : Type 0 where
   pub each : length file.unresolved ≡ length file.units
   pub few : length file.units ≤ length text

@@ -1,4 +1,4 @@
--- Tokens of which the roles alone tell that no case is called there.
+-- Tokens at which the roles alone rule out a call of a test case.
 use Rattle.std.specs.Prelude.{ℕ, ◌+◌, Bool, true, false, ◌&&◌, List}
 use Rattle.base.specs.declared.design.Role.{Role}
 use Rattle.base.specs.declared.design.Role.TheVariants.{Other}

@@ -1,4 +1,4 @@
--- Texts of at most so many bytes as the program reads of a file.
+-- Texts of at most 4,194,304 bytes, the limit for a file that the program reads.
 use Rattle.std.specs.Prelude.{ℕ, ◌≤◌, List, length}
 use Rattle.base.specs.declared.limits.TheConstants.{TEXT_LIMIT}
 

@@ -34,8 +34,9 @@ unit_strings text tokens unit = if is_architecture_kind unit.kind then run_strin
 abbrev pub unit_runs : List ℕ → List Token → DesignUnit → UnitFacts
 unit_runs text tokens unit = record { bench = bench_token text tokens unit; strings = unit_strings text tokens unit }
 
--- What a file says of tests, kept without its tokens: of each unit the token that names it, where it is a bench, and
--- the strings that it calls `run` with, where it is an architecture; and whether a comment asks for one simulation.
+-- The testbench facts of a file, kept without its tokens. For each unit that is a bench, they have the token of its name.
+-- For each architecture, they have the strings with which it calls `run`. They also say whether a comment asks for one
+-- simulation.
 abbrev pub file_runs : List ℕ → Scan → FileFacts
 file_runs text scan = record { units = map (unit_runs text scan.tokens.list) scan.units; same_sim = asks_same_sim text scan.tokens.comments }
 

@@ -43,9 +43,10 @@ structural_of configured unit kinds.Configuration = structural_ref unit (owner_n
 structural_of configured unit kinds.PackageBody = structural_ref unit unit.name Nothing ∷ []
 structural_of configured unit _ = []
 
--- What was kept of a unit is what its tokens say: references to context declarations, by structure and by name,
--- libraries that are used whole, and components. Of `context work.ctx; package w is constant k : integer := other.q.c;
--- end;` the tokens 1 and 3 are kept for the reference to a context declaration, and 1, 3, 14 and 16 for those by name.
+-- The unresolved references that are kept of a unit are those of its tokens: references to context declarations, structural
+-- references, references by name, libraries that are used whole, and components. Example: `context work.ctx; package w is
+-- constant k : integer := other.q.c; end;`. The tokens 1 and 3 are kept for the reference to a context declaration, and 1,
+-- 3, 14 and 16 for the references by name.
 pub record AreUnresolvedRefsOf (text : List ℕ) (tokens : List Token) (unit : DesignUnit) (unresolved : UnresolvedRefs) : Type 0 where
   pub contexts : map (named_ref text) unresolved.contexts ≡ context_refs text tokens unit
   pub structural : structural_of unresolved.configured unit unit.kind ≡ structural_by text tokens unit unit.kind

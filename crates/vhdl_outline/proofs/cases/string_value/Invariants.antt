@@ -1,4 +1,4 @@
--- The bytes so far, and then those of what is left.
+-- The bytes so far, followed by the value of the remaining bytes, are the value of the string.
 use Rattle.std.proofs.Common.{◌≡◌, ◌++◌, length}
 use Rattle.vhdl_outline.specs.Calls.{unquoted}
 use Rattle.vhdl_outline.proofs.cases.string_value.Given as goal

@@ -1,4 +1,4 @@
--- The file has the units of the scan, and what is kept of them.
+-- The appended file has the units of the scan, with their scopes, unresolved references and testbench facts.
 use Rattle.std.proofs.Common.{refl}
 use Rattle.vhdl_outline.proofs.OutlineLemmas.{added}
 use Rattle.vhdl_outline.proofs.outlines.Outlines.push.Goals as goal
