@@ -177,7 +177,7 @@ module _ (units : List ScopeUnit) (names : List (List ℕ)) (rows : List (List �
   own_seen : (user : ScopeUnit) (name : List ℕ) → Contains units user → is_own user name ≡ true → sees units user name ≡ true
   own_seen user name there own = is_closed.own user name there own
 
-  -- a unit that another belongs to hands on what it sees, and so does a context declaration
+  -- a unit sees every name that a unit it belongs to sees; the same holds for the context declarations that it refers to
   by_owner : (user v : ScopeUnit) (name : List ℕ) → Contains units user → Contains units v → belongs_to user v ≡ true → sees units v name ≡ true → sees units user name ≡ true
   by_owner user v name there v_there owner seen =
       is_closed.grown user name there
@@ -292,7 +292,7 @@ module _ (units : List ScopeUnit) (names : List (List ℕ)) (rows : List (List �
   pub only_seen : (at : ℕ) → at < length units → (number : ℕ) → has rows at number ≡ true → sees units (get_or units at no_unit) (name_of_number names number) ≡ true
   only_seen at within number told = sym (set_unit at number within) ∙ is.spread.sound sets sets_taken sets_within at number told
 
-  -- ## All that is seen
+  -- ## Every visible name
 
   in_first : (at : ℕ) → at < length units → (name : List ℕ) → Contains (implicit ++ (unit_at units at).names) name → Contains names name × (has rows at (number_of names name) ≡ true)
   in_first at within name own =

@@ -81,7 +81,7 @@ module _ (first next : List Link) (rows : List (List ℕ)) (old mid new : List �
     grows = both_grow grew grows before.grows after.grows (not_less grew old mid before.same before.grows) (not_less grows mid new after.same after.grows);
   }
 
--- a row that has grown may be left as it is, whatever other links hand on
+-- once a row has grown, the remaining links need not be followed
 pub looked_early : (some rest links : List Link) (rows : List (List ℕ)) (old new : List ℕ) (grown : Bool) → some ++ rest ≡ links → grown ≡ true → HasLooked some rows old new grown → HasLooked links rows old new true
 looked_early some rest links rows old new grown whole is looked = record {
   even = looked.even;

@@ -148,7 +148,7 @@ given_name : (m : MaybeText) (name : List ℕ) → is_given m name ≡ true → 
 given_name Nothing name told = let never : ⊥ = cc in absurd never
 given_name (Given other) name told = ap Given (same_bytes other name told)
 
--- and so is that of the architecture that is configured
+-- an architecture that a unit configures is in the group of the entity and the name that the unit configures
 pub configured_wanted : (user v : ScopeUnit) → is_configured_by user v ≡ true → (entity : List ℕ) × (name : List ℕ) × (user.unit.owner ≡ Given entity) × (configured_name user.unit.kind user.configured ≡ Given name) × Contains (own_groups v.library v.unit) (architectures_of user.library entity name)
 configured_wanted user v told = (
   owner_name v.unit.owner,

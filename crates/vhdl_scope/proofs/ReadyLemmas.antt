@@ -35,7 +35,7 @@ names_known files names are i d within k e inside name there =
     let scoped : Contains (file_scopes files) unit = in_parts (λ (f : FileOutline). f.scopes) files file unit (Contains-get_or files i d within) (Contains-get_or file.scopes k e inside) in
     are.added name (Contains-append_right implicit (flat_map (λ (u : UnitScope). u.names) (file_scopes files)) name (in_parts (λ (u : UnitScope). u.names) (file_scopes files) unit name scoped there))
 
--- what is kept of names is kept of each unit
+-- one scope is kept for each unit
 pub kept_each : (files : List ProjectFile) (texts : List (List ℕ)) (scans : List Scan) (outlines : List FileOutline) → length texts ≡ length files → FilesAreOf texts scans outlines → length (scope_units files texts scans) ≡ length (file_scopes outlines)
 kept_each files texts scans outlines each are =
     sym (ap length (scopes_kept texts scans outlines are ∙ scopes_are files texts scans each) ∙ length-map (scope_units files texts scans) as_scope)

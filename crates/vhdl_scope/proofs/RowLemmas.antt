@@ -285,7 +285,7 @@ no_words words runs none =
     ext_get_or 0 (row_words words runs) (replicate words 0) (words_long words runs ∙ sym (length-replicate {A = ℕ} words 0))
     (λ at within. let below : at < words = omega (arith, words_long words runs) in word_told words runs at below ∙ (ap (λ (some : List Run). word_or 0 some at) none ∙ (empty_told 0 at ∙ sym (get_or-replicate {A = ℕ} words at 0 0 below))))
 
--- rows of one length have so many words
+-- rows of the same length have the same number of words
 pub as_many : (words others : ℕ) (runs more : List Run) → length (row_words others more) ≡ length (row_words words runs) → others ≡ words
 as_many words others runs more even = sym (words_long others more) ∙ (even ∙ words_long words runs)
 

@@ -111,7 +111,7 @@ at_index R (x ∷ xs) (y ∷ ys) (suc k) d e all within = at_index R xs ys k d e
 pub starts_more : (starts : List ℕ) (start end : ℕ) (wanted : ℕ → ℕ) → length starts ≡ end → start ≡ wanted end → ((file : ℕ) → file < end → get_or starts file 0 ≡ wanted file) → (file : ℕ) → file < end + 1 → get_or (starts ++ start ∷ []) file 0 ≡ wanted file
 starts_more starts start end wanted each is so_far = below_more _ _ (λ (k : ℕ) (below : k < end). get_or-append starts (start ∷ []) 0 k (omega arith) ∙ so_far k below) (ap (λ (n : ℕ). get_or (starts ++ start ∷ []) n 0) (sym each) ∙ (get_or-append_seam starts start [] 0 ∙ is))
 
--- the units of so many files, with their groups
+-- the units of the first `count` files, with their groups
 pub record AreFirst (keeps : Bool) (files : List ProjectFile) (texts : List (List ℕ)) (scans : List Scan) (count : ℕ) (starts : List ℕ) (groups : List Group) (owned : List Owned) : Type 0 where
   pub grouped : AreGrouped keeps (scope_units (take count files) (take count texts) (take count scans)) groups owned
   pub begins : (file : ℕ) → file < count → get_or starts file 0 ≡ units_before files texts scans file

@@ -71,7 +71,7 @@ inside_more rows top new item at is joined so_far k below number there = elim (c
       subst IsTrue (sym (joined number)) (or_right (row_has top number) (row_has item number) (subst (λ (row : List ℕ). IsTrue (row_has row number)) (ap (λ (n : ℕ). get_or rows n []) here ∙ sym is) there))
 ]
 
--- past the last row there is none
+-- if each row below `end` is within `top`, all rows are, since no row follows
 pub inside_all : (rows : List (List ℕ)) (top : List ℕ) (end : ℕ) → length rows ≤ end → ((k : ℕ) → k < end → IsPartOf (row_has (get_or rows k [])) (row_has top)) → AreInside rows top
 inside_all rows top end all each at number there = elim (cases_lt at end) [
   | inl below ↦ each at below number there
@@ -188,7 +188,7 @@ from_index (first ∷ links) at = by_first (eqb_tells first.source at) (from_ind
     not_first link (zero, within, is) = λ (same : link.source ≡ at). differ (ap (λ (l : Link). l.source) is ∙ same)
     not_first link (suc k, within, is) = none link (k, omega arith, is)
 
--- an index that was looked at, where its row is as it was
+-- a look at an index that left its row unchanged
 module _ (links : List (List Link)) (readers : List (List ℕ)) (at : ℕ) (rows new : List (List ℕ)) (work : List ℕ) (flags : List Bool) (look : HasLookedAt links at rows new false) (list : IsWork (work ++ at ∷ []) flags) (within : at < length flags) where
   rows_same : new ≡ rows
   rows_same = same_rows links at rows new look

@@ -75,7 +75,7 @@ unit_found (x ∷ files) (y ∷ texts) (z ∷ scans) (suc at) number file text s
     let row_index : length (first ++ scope_units (take at files) (take at texts) (take at scans)) + number ≡ length first + (units_before files texts scans at + number) = omega (arith, long) in
     rw row_index (omega (arith, later.0, length-append first rest), get_or-append-add first rest (units_before files texts scans at + number) no_unit ∙ later.1)
 
--- the names of a row are those that its unit sees
+-- the names of a row are the names that its unit sees
 module _ (units : List ScopeUnit) (names : List (List ℕ)) (rows : List (List ℕ)) (is : AreGrown (map as_scope units) units names rows) (at : ℕ) (within : at < length units) (user : ScopeUnit) (found : get_or units at no_unit ≡ user) where
   row : List ℕ
   row = index_row rows at
@@ -129,7 +129,7 @@ by_number names row name number is within = both_ways (row_has row number) (list
       let kept = from_filter (λ (n : List ℕ). row_has row (number_of names n)) names some.0 some.1 in
       subst (λ (n : ℕ). row_has row n ≡ true) (sym is) (subst (λ (n : List ℕ). row_has row (number_of names n) ≡ true) (sym (same_bytes name some.0 some.2)) (kept.1))
 
--- and one that has none is in no row
+-- a name without a number is in no row
 pub by_none : (names : List (List ℕ)) (row name : List ℕ) → (Contains names name → ⊥) → false ≡ list_any (bytes_eq name) (row_names names row)
 by_none names row name none = both_ways false (list_any (bytes_eq name) (row_names names row)) (λ (told : false ≡ true). let never : ⊥ = cc in absurd never) found where
   found : list_any (bytes_eq name) (row_names names row) ≡ true → false ≡ true
@@ -138,7 +138,7 @@ by_none names row name none = both_ways false (list_any (bytes_eq name) (row_nam
       let kept = from_filter (λ (n : List ℕ). row_has row (number_of names n)) names some.0 some.1 in
       absurd (none (subst (Contains names) (sym (same_bytes name some.0 some.2)) (kept.0)))
 
--- the set of a row that is there, and of one that isn't
+-- the set of an index with a row, and of an index past the rows
 pub set_there : (names : List (List ℕ)) (rows : List (List ℕ)) (at : ℕ) (row : List ℕ) → slice_get rows at ≡ Some row → get_or (map (row_names names) rows) at [] ≡ row_names names row
 set_there names rows at row is = get_or-map (row_names names) rows at row [] (slice_get_within rows at row is) ∙ ap (row_names names) (get_or_from_slice_get rows at row row is)
 

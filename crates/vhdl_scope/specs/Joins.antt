@@ -54,7 +54,7 @@ pub record HasMember (groups own : List Group) (link : Link) (old new : List (Li
   pub joined : (group : Group) → Contains own group → Contains groups group → Contains (links_at new (group_number groups group)) link
   pub only : (at : ℕ) (other : Link) → Contains (links_at new at) other → Contains (links_at old at) other ⊎ ((other ≡ link) × IsOneOf groups own at)
 
--- a unit for indices where there is none
+-- an empty unit, for an index that no unit has
 pub no_user : ScopeUnit
 no_user = record { library = []; unit = record { kind = Entity; name = []; owner = Nothing; lead = 0; first = 0; last = 0 }; names = []; contexts = []; configured = Nothing }
 

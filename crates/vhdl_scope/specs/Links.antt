@@ -24,8 +24,8 @@ AreTaken links sets = (at : ℕ) → TakesAll (links_at links at) sets (sets at)
 abbrev pub AreTakenTo : ℕ → List (List Link) → (ℕ → ℕ → Bool) → Type 0
 AreTakenTo end links sets = (at : ℕ) → at < end → TakesAll (links_at links at) sets (sets at)
 
--- a row after it took, once each and in order, what links hand on from the sets of other rows, and whether it grew:
--- it has nothing that closed sets around it don't have, and where it didn't grow it takes what they hand on
+-- A row after links to the sets of other rows were followed, and whether it grew. The row gains only numbers that every
+-- closed set around the rows has. If it did not grow, it already takes what all these links hand on.
 pub record HasLooked (links : List Link) (rows : List (List ℕ)) (old new : List ℕ) (grown : Bool) : Type 0 where
   pub even : length new ≡ length old
   pub larger : IsPartOf (row_has old) (row_has new)
@@ -38,7 +38,7 @@ pub record HasLooked (links : List Link) (rows : List (List ℕ)) (old new : Lis
 abbrev pub index_row : List (List ℕ) → ℕ → List ℕ
 index_row rows at = slice_index_or rows at []
 
--- all rows have so many words
+-- each row has `words` words
 abbrev pub AreEven : ℕ → List (List ℕ) → Type 0
 AreEven words rows = All (λ row. length row ≡ words) rows
 

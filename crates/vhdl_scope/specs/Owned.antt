@@ -20,17 +20,17 @@ pub record IsOnly (groups own : List Group) (number : ℕ) : Type 0 where
 abbrev pub IsNumbered : List Group → List Group → Option ℕ → Type 0
 IsNumbered groups own number = MatchOption number (own ≡ []) (IsOnly groups own)
 
--- the numbers of the groups that a unit of a library is in, of those that are kept
+-- the numbers of the kept groups that a unit of a library is in
 pub record IsOwned (keeps : Bool) (groups : List Group) (library : List ℕ) (unit : DesignUnit) (owned : Owned) : Type 0 where
   pub primary : IsNumbered groups (primary_group library unit) owned.primary
   pub context : IsNumbered groups (context_group library unit) owned.context
   pub architecture : IsNumbered groups (kept_architectures keeps library unit) owned.architecture
 
--- the numbers of the groups that a unit of a project is in, of those that are kept
+-- the numbers of the kept groups that a unit of a project is in
 abbrev pub IsOwnedBy : Bool → List Group → Owned → ScopeUnit → Type 0
 IsOwnedBy keeps groups owned user = IsOwned keeps groups user.library user.unit owned
 
--- groups were added, and those that were there have the numbers that they had
+-- groups were added, and each earlier group keeps its number
 pub record HasGrown (old new : List Group) : Type 0 where
   pub long : length old ≤ length new
   pub same : (group : Group) → group_number old group < length old → group_number new group ≡ group_number old group

@@ -4,7 +4,7 @@ use Rattle.vhdl_scope.specs.declared.row.Run.{Run}
 use Rattle.vhdl_scope.specs.declared.row.Runs.{Runs}
 use Rattle.vhdl_scope.specs.declared.row.Runs.TheVariants.{One, Many}
 
--- the word at an index: that of the first run that ends past it, and another one where there is none
+-- the word at an index: that of the first run that ends past it, or `none` if no run does
 unfoldable pub word_or : ℕ → List Run → ℕ → ℕ
 word_or none [] at = none
 word_or none (run ∷ rest) at = if nat_lt at run.end then run.word else word_or none rest at
@@ -14,7 +14,7 @@ unfoldable pub values : (ℕ → ℕ) → ℕ → List ℕ
 values f zero = []
 values f (suc count) = values f count ++ f count ∷ []
 
--- a row of so many words, spelled by runs
+-- a row of `words` words, spelled by runs
 unfoldable pub row_words : ℕ → List Run → List ℕ
 row_words words runs = values (word_or 0 runs) words
 

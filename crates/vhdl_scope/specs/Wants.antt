@@ -42,7 +42,7 @@ own_groups library unit = primary_group library unit ++ (context_group library u
 abbrev pub kept_groups : Bool → List ℕ → DesignUnit → List Group
 kept_groups keeps library unit = primary_group library unit ++ (context_group library unit ++ kept_architectures keeps library unit)
 
--- the groups that are kept of those that a unit of a project is in
+-- the kept groups that a unit of a project is in
 abbrev pub user_groups : Bool → ScopeUnit → List Group
 user_groups keeps user = kept_groups keeps user.library user.unit
 

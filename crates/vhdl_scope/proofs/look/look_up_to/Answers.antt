@@ -1,4 +1,4 @@
--- One link more; or the row has grown to what is there.
+-- One more link is followed, or the row has grown to `top` and the remaining links are left out.
 use Rattle.std.proofs.Common.{◌≡◌, ◌<◌, ◌+◌, ◌∷◌, ◌++◌, ◌∙◌, [], ℕ, List, ap, refl, sym, arith, drop, get_or, length, take}
 use Rattle.std.proofs.lemmas.List.{take-append-drop, take_more}
 use Rattle.vhdl_scope.specs.declared.links.Link.{Link}

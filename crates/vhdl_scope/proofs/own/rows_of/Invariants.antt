@@ -1,4 +1,4 @@
--- First the units of the files up to the index have rows, and then so many groups.
+-- The rows so far are those of the units of the first files. In the second loop, the rows of the groups so far follow them.
 use Rattle.std.proofs.Common.{◌≡◌, [], ◌++◌, length, map, replicate, take}
 use Rattle.std.specs.List.{AllZip}
 use Rattle.vhdl_outline.specs.Outlines.{file_scopes}

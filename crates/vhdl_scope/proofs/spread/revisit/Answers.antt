@@ -1,4 +1,4 @@
--- The index's row has grown, or it is as it was.
+-- The row of the index has grown, or it is unchanged.
 use Rattle.std.proofs.Common.{◌≡◌, ◌∙◌, ℕ, [], List, subst, arith}
 use Rattle.std.proofs.lemmas.List.{get_or_default}
 use Rattle.vhdl_scope.specs.Links.{HasLookedAt}
