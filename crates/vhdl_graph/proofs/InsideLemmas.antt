@@ -1,4 +1,5 @@
--- References whose libraries were looked up: in one that isn't seen or isn't looked into nothing is missing, and nothing named.
+-- References whose libraries were looked up. If the library isn't visible or isn't looked into, the reference is not missing
+-- and names no unit.
 use Rattle.std.proofs.Common.{◌≡◌, ◌∙◌, Bool, true, false, not, ◌&&◌, Option, Some, None, List, [], ◌∷◌, ◌++◌, ℕ, map, refl, sym, ap}
 use Rattle.std.specs.Prelude.{⊤, Result, Ok}
 use Rattle.std.proofs.lemmas.List.{map-append}

@@ -21,7 +21,7 @@ use Rattle.vhdl_graph.specs.Rows.{HasAdded, stands_at}
 use Rattle.vhdl_graph.proofs.IndexLemmas.{fault_on, mapped_more, mapped_split}
 use Rattle.vhdl_graph.proofs.RowLemmas.{added_both, added_none, added_same, stands_never, stands_same}
 
--- the same is said of the same
+-- the outcome for an equal fault, with a property that follows from the first one
 pub gives_on : {T : Type 0} (said other : Option LinkFault) (P Q : T → Type 0) (result : Result T LinkFault) → other ≡ said → ((value : T) → P value → Q value) → GivesOrFaults said P result → GivesOrFaults other Q result
 gives_on said other P Q (Ok value) same on is = (same ∙ is.0, on value (is.1))
 gives_on said other P Q (Err fault) same on is = fault_on said other fault (λ given e. same ∙ e) is

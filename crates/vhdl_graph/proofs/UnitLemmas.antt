@@ -1,4 +1,4 @@
--- What a unit uses and refers to, as it is read of its file.
+-- What a unit uses and refers to, as read from its file.
 use Rattle.std.proofs.Common.{◌≡◌, ℕ, Bool, true, false, ◌&&◌, Option, Some, None, List, [], ◌∷◌, ◌++◌, map, refl, sym, ◌∙◌, ap}
 use Rattle.std.specs.Prelude.{if◌then◌else◌}
 use Rattle.std.specs.List.{filter_map, flat_map}

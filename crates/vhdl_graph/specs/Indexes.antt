@@ -16,7 +16,7 @@ abbrev pub IsFaultOf : Option LinkFault → LinkFault → Type 0
 IsFaultOf said NoMemory = Unit {0}
 IsFaultOf said fault = said ≡ Some fault
 
--- a fault is given where there is one, and else a value
+-- the result is a right value if there is no fault, and otherwise the fault; memory may run out in both cases
 abbrev pub GivesOrFaults : {T : Type 0} → Option LinkFault → (T → Type 0) → Result T LinkFault → Type 0
 GivesOrFaults said right (Ok value) = (said ≡ None) × right value
 GivesOrFaults said right (Err fault) = IsFaultOf said fault

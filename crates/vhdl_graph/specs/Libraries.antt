@@ -1,4 +1,4 @@
--- The libraries of a project: those that have files, and those that stand outside of it.
+-- The libraries of a project: libraries that have files in it, and external libraries.
 use Rattle.std.specs.Prelude.{◌≡◌, ℕ, Bool, ◌&&◌, ◌||◌, not, List, [], ◌∷◌, Vec, codes}
 use Rattle.std.specs.Global.{Global}
 use Rattle.std.specs.List.{list_any}

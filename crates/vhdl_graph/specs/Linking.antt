@@ -1,4 +1,4 @@
--- The units of a project with what is known of their names, and what they refer to.
+-- The units of a project, with the tables of the names that they see, and what the units refer to.
 use Rattle.std.specs.Prelude.{◌≡◌, ℕ, ◌<◌, Bool, true, not, ◌&&◌, if◌then◌else◌, Option, Some, None, Result, List, [], ◌∷◌, ◌++◌, length, map, slice_get}
 use Rattle.std.specs.List.{flat_map, list_any}
 use Rattle.std.specs.Str.{bytes_eq}
@@ -32,11 +32,11 @@ named_library own named = if bytes_eq named work then own else named
 abbrev pub seen_library : Bool → List ℕ → List ℕ → Option (List ℕ)
 seen_library is_seen own named = if is_seen then Some (named_library own named) else None
 
--- a use of a library that has files, or of one that has none
+-- the warning of a use of a library, if the library has files
 abbrev pub noted_library : Bool → ℕ → List ℕ → List Warning
 noted_library has file library = if has then record { file = file; library = library } ∷ [] else []
 
--- a use of a name, where it is seen
+-- the warning of a use of a library, if the unit sees the library and it has files
 abbrev pub noted_where : Bool → Tables → ℕ → List ℕ → List Warning
 noted_where is_seen tables file library = if is_seen then noted_library (knows tables.libraries.own library) file library else []
 
