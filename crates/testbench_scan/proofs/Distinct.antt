@@ -1,4 +1,4 @@
--- Full names are distinct where there is no fault, and each bench is that of one architecture.
+-- Without a fault, full names are distinct, and each bench is the bench of one architecture.
 use Rattle.std.proofs.Common.{◌≡◌, ◌≢◌, ◌⊎◌, inl, inr, ℕ, zero, suc, Bool, true, false, cond, Option, Some, None, List, [], ◌∷◌, ◌++◌, append_assoc, append-nil, map, get_or, refl, sym, ◌∙◌, ap, subst, arith}
 use Rattle.std.specs.Prelude.{Result, Ok, Err}
 use Rattle.std.specs.List.{AllPairs, Contains, flat_map, list_any}
@@ -64,7 +64,7 @@ names_same [] = refl
 names_same (Ok bench ∷ found) = ap (λ (names : List (List ℕ)). bench_names bench ++ names) (names_same found)
 names_same (Err fault ∷ found) = names_same found
 
--- where tests are given there is no fault, and they are those that are found
+-- if the result is a list of tests, there is no fault, and the tests are those of the list `all`
 given : (fault : Option TestFault) (all tests : List Bench) → ◌≡◌ {A = Result (List Bench) TestFault} (option_map_or (λ f. Err f) fault (Ok all)) (Ok tests) → (fault ≡ None) × (all ≡ tests)
 given None all tests told = (refl, cc)
 given (Some fault) all tests told = let no : ⊥ = cc in absurd no

@@ -30,7 +30,7 @@ mapped_split f xs i d within = ap (map f) (split_here xs i d within) ∙ map-app
 pub parts_push : {X Y : Type 0} (f : X → List Y) (xs : List X) (x : X) → flat_map f (xs ++ x ∷ []) ≡ flat_map f xs ++ f x
 parts_push {X} {Y} f xs x = flat_map-append f xs (x ∷ []) ∙ ap (λ (ys : List Y). flat_map f xs ++ ys) (append-nil (f x))
 
--- none of these has a fault
+-- no bench of a list has a fault: the first fault of a longer list is that of the benches that follow
 abbrev pub NoneFails : FoundList → Type 0
 NoneFails found = (rest : FoundList) → first_bench_fault [] (found ++ rest) ≡ first_bench_fault (flat_map names_of_found found) rest
 
@@ -45,12 +45,12 @@ pub fails_here : (found after all : FoundList) (one : Result Bench TestFault) (f
 fails_here found after all one NoMemory none is told = tt
 fails_here found after all one (Fault fault) none is told = ap (first_bench_fault []) is ∙ none (one ∷ after) ∙ ap (λ (o : Option TestFault). option_or o (first_bench_fault (flat_map names_of_found found ++ names_of_found one) after)) told
 
--- what is answered where there is a fault
+-- the answer if a bench has a fault
 pub gives_fault : (found : FoundList) (fault : OrMemory TestFault) → IsTestFault (first_bench_fault [] found) fault → GivesTests (tests_found found) (Err fault)
 gives_fault found NoMemory is = tt
 gives_fault found (Fault fault) is = ap (λ (o : Option TestFault). option_map_or (λ (f : TestFault). Err f) o (Ok (flat_map found_bench found))) is
 
--- what is answered where there is none
+-- the answer if no bench has a fault
 pub gives_all : (found : FoundList) (tests : List Bench) → NoneFails found → tests ≡ flat_map found_bench found → GivesTests (tests_found found) (Ok tests)
 gives_all found tests none is =
     let nothing : first_bench_fault [] found ≡ None = ap (first_bench_fault []) (sym (append-nil found)) ∙ none [] in

@@ -42,7 +42,7 @@ module _ (sources : ScannedFiles) (ids : List UnitId) (id : UnitId) where
   kept : (k : UnitKey) → test k id ≡ false → filter (test k) (ids ++ id ∷ []) ≡ filter (test k) ids
   kept k told = pushed k false told ∙ append-nil (filter (test k) ids)
 
-  -- the unit is no architecture
+  -- the unit is not an architecture
   pub holds_other : (index : Entries UnitKey Architectures) → HoldsArchitectures sources ids index → is_architecture_kind (design_unit sources id).kind ≡ false → HoldsArchitectures sources (ids ++ id ∷ []) index
   holds_other index holds other k = holds k ∙ sym (ap first_of_some (kept k (ap (λ (b : Bool). b && (bytes_eq (unit_library sources id) k.library && bytes_eq (owner_name (design_unit sources id).owner) k.name)) other)))
 
@@ -59,7 +59,7 @@ module _ (sources : ScannedFiles) (ids : List UnitId) (id : UnitId) where
         ∙ sym (found_more (filter (test k) ids) id) ∙ sym (ap first_of_some (pushed k true (tested ∙ told)))
     by_key false told = holds k ∙ sym (ap first_of_some (kept k (tested ∙ told)))
 
--- all that is found is in the files
+-- every architecture that the index finds is in the files
 pub found_in : (files : Files) (old new : Entries UnitKey Architectures) (key : UnitKey) (more : Architectures) → AreFoundInFiles files old → IsInFiles files more.first → Gives old new key more → AreFoundInFiles files new
 found_in files old new key more are within updates other found told = by_key (is_same_unit key other) refl where
   by_key : (b : Bool) → is_same_unit key other ≡ b → IsInFiles files found.first

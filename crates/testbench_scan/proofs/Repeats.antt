@@ -15,7 +15,7 @@ pub fault_on : (said other : Option TestFault) (fault : OrMemory TestFault) → 
 fault_on said other NoMemory on is = tt
 fault_on said other (Fault fault) on is = on fault is
 
--- the same is said of the same
+-- the outcome for an equal fault, with a property that follows from the first one
 pub gives_on : {T : Type 0} (said other : Option TestFault) (P Q : T → Type 0) (result : Result T (OrMemory TestFault)) → other ≡ said → ((value : T) → P value → Q value) → GivesOrFails said P result → GivesOrFails other Q result
 gives_on said other P Q (Ok value) same on is = (same ∙ is.0, on value (is.1))
 gives_on said other P Q (Err fault) same on is = fault_on said other fault (λ given e. same ∙ e) is

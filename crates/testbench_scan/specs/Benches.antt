@@ -1,5 +1,5 @@
--- The test benches of a project (IEEE Std 1076-2008, clauses 3.2, 3.3 and 13.1; what makes an entity a bench and how tests
--- are named is VUnit's documented behaviour), and what is wrong with them.
+-- The test benches of a project (IEEE Std 1076-2008, clauses 3.2, 3.3 and 13.1), and the faults of benches. VUnit's
+-- documentation defines which entities are benches and how tests are named.
 --
 -- A unit of a project is named by the position of its file and its number in that file.
 use Rattle.std.specs.Prelude.{◌≡◌, ℕ, Bool, not, ◌&&◌, ◌||◌, ◌==◌, nat_lt, if◌then◌else◌, Option, Some, None, Result, Ok, Err, List, [], ◌∷◌, ◌++◌, length, map, filter, flat_map, slice_index_or, codes, Contains}
@@ -127,7 +127,7 @@ bench_with sources entity [] = Err (NoArchitecture (bench_name (unit_library sou
 bench_with sources entity (architecture ∷ []) = Ok (bench_of sources entity architecture)
 bench_with sources entity (first ∷ second ∷ others) = Err (TwoArchitectures (bench_name (unit_library sources entity) (design_unit sources entity).name))
 
--- the bench of an entity with the architectures that the project has for it, or what is wrong with these
+-- the bench of an entity with its one architecture in the project, or the fault that there isn't exactly one
 abbrev pub bench_at : ScannedFiles → UnitId → Result Bench TestFault
 bench_at sources entity = bench_with sources entity (architectures_of sources (unit_library sources entity) (design_unit sources entity).name)
 
@@ -141,7 +141,7 @@ is_control byte = nat_lt byte 32 || byte == 127
 abbrev pub is_good_name : List ℕ → Bool
 is_good_name name = is_utf8 name && not (list_any is_control name)
 
--- a case without a name, or with a full name that is none
+-- a case without a name, or whose full name isn't UTF-8 or has a control character
 abbrev pub is_bad_case : Bench → TestCase → Bool
 is_bad_case bench test_case = length test_case.name == 0 || not (is_good_name (full_name bench test_case))
 
@@ -150,7 +150,8 @@ abbrev pub first_repeated : List (List ℕ) → List (List ℕ) → Option (List
 first_repeated before [] = None
 first_repeated before (name ∷ names) = if is_one_of before name then Some name else first_repeated (before ++ name ∷ []) names
 
--- what is wrong with the names of a bench, after these full names: first the names alone, and then whether one came before
+-- the fault in the names of a bench: a bad name, or else the first full name that is in `before` or came earlier in the
+-- bench
 abbrev pub case_fault : List (List ℕ) → Bench → Option TestFault
 case_fault before bench =
     if list_any (is_bad_case bench) bench.cases then Some (BadName (bench_name bench.library bench.name))
@@ -158,7 +159,7 @@ case_fault before bench =
 
 -- ## The tests of a project
 
--- what is wrong with a bench that comes after these full names: with its architectures, or with its names
+-- the fault of a bench: in its architectures, or in its names after the full names in `before`
 abbrev pub bench_fault : List (List ℕ) → Result Bench TestFault → Option TestFault
 bench_fault before (Ok bench) = case_fault before bench
 bench_fault before (Err fault) = Some fault

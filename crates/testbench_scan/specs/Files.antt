@@ -29,7 +29,7 @@ AreScannedAs files scans = FilesAreOf files.texts.now scans files.outlines.now
 abbrev pub scanned : Files → List Scan → ScannedFiles
 scanned files scans = record { files = files.project.now.files; texts = files.texts.now; scans = scans }
 
--- what a unit says that is no bench and calls no case
+-- the testbench facts of a unit that is not a bench and calls no case
 abbrev pub no_runs : UnitFacts
 no_runs = record { bench = None; strings = [] }
 
@@ -54,7 +54,8 @@ pub record IsInFiles (files : Files) (id : UnitId) : Type 0 where
 abbrev pub AreInFiles : Files → List UnitId → Type 0
 AreInFiles files ids = All (IsInFiles files) ids
 
--- the unit of a number, with what is known of its file
+-- the unit of a number: its library, its text, its design unit, its testbench facts, and whether its file asks for one
+-- simulation
 pub record IsLocated (sources : ScannedFiles) (id : UnitId) (found : Found) : Type 0 where
   pub library : found.library.now ≡ unit_library sources id
   pub text : found.text.now ≡ unit_text sources id

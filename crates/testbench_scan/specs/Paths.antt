@@ -17,7 +17,7 @@ Leads steps name_index name = LeadsBack steps name_index (reverse name)
 abbrev pub HasGrown : List Step → List Step → Type 0
 HasGrown old new = (more : List Step) × (new ≡ old ++ more)
 
--- no step is there twice
+-- no two steps are equal
 abbrev pub AreOnce : List Step → Type 0
 AreOnce steps = AllPairs (λ a b. a ≢ b) steps
 

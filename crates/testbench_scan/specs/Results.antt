@@ -13,7 +13,7 @@ abbrev pub IsTestFault : Option TestFault → OrMemory TestFault → Type 0
 IsTestFault said NoMemory = Unit {0}
 IsTestFault said (Fault fault) = said ≡ Some fault
 
--- a fault is given where there is one, and else a value
+-- the result is a right value if there is no fault, and otherwise the fault; memory may run out in both cases
 abbrev pub GivesOrFails : {T : Type 0} → Option TestFault → (T → Type 0) → Result T (OrMemory TestFault) → Type 0
 GivesOrFails said right (Ok value) = (said ≡ None) × right value
 GivesOrFails said right (Err fault) = IsTestFault said fault
