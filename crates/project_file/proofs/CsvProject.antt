@@ -1,4 +1,4 @@
--- The project of a file of lines is one: its names are distinct and fit, and so do its commands.
+-- The project of a CSV file is valid: its names are distinct, and its names and commands are within the limits.
 use Rattle.std.proofs.Common.{◌≡◌, ◌≢◌, ℕ, zero, suc, eqb, ◌+◌, ◌<◌, ◌≤◌, true, false, cond, List, [], ◌∷◌, ◌++◌, length, get_or, map, Option, Some, None, Result, Ok, Err, refl, sym, ap, subst, ◌∙◌, arith, inl, inr}
 use Rattle.std.specs.Prelude.{All, AllPairs, codes, Bool}
 use Rattle.std.specs.Char.{to_ascii_lowercase}

@@ -250,7 +250,7 @@ alone_more_name names i name keys new number once low at are is =
       | inr grown ↦ grown ∙ ap (λ ks. ks ++ alone name ∷ []) are ∙ sym next
     ]
 
--- a path that is one of names, and one that isn't
+-- a path that is in a list of names, and one that is not
 named_path : (names : List (List ℕ)) (path : List ℕ) (file_index : ℕ) → slice_get (map alone names) file_index ≡ Some (alone path) → is_among names path ≡ true
 named_path names path file_index at =
     let within : file_index < length (map alone names) = slice_get_within (map alone names) file_index (alone path) at in

@@ -32,7 +32,7 @@ checked_pair_is files table = first (named_file (codes "library") (codes "path")
     first (Ok user) (Err fault) = refl
     first (Err fault) used = refl
 
--- what is said of a dependency whose files are named
+-- the check of a dependency whose two files are named: both must be files of the project
 pub pair_named : (files : List ProjectFile) (table : Members) (user used : FileName) → named_file (codes "library") (codes "path") table ≡ Ok user → named_file (codes "on_library") (codes "on_path") table ≡ Ok used → checked_pair files table ≡ then_read (faults_of (index_of_file files user)) (λ known. faults_of (index_of_file files used))
 pair_named files table user used first second =
     ap (λ (s : Result FileName ProjectFault). then_read s (λ user. then_read (named_file (codes "on_library") (codes "on_path") table) (λ used. then_read (faults_of (index_of_file files user)) (λ known. faults_of (index_of_file files used))))) first
@@ -142,7 +142,7 @@ module _ (said : Result (List ProjectFile) ProjectFault) (simulator external : L
     pub many_fails : (fault : OrMemory ProjectFault) → ((files : List ProjectFile) → said ≡ Ok files → ReadsStep (checked_links files table) (Err fault)) → ReadsStep (few_said said_project) (Err fault)
     many_fails fault fails = fault_ends _ _ fault (reads_same _ _ (Err fault) (sym over_is) (fault_before _ (λ project. tt) fault (reads_same _ _ (Err fault) (checked_links_is over_said.0 simulator external bodies table) (fails over_said.0 over_said.1))))
 
--- a project that is kept is what is said
+-- if a project is kept, it is the project that the file gives
 pub few_project_is : (said : Result Project ProjectFault) (project : Project) → few_said said ≡ Ok (Some project) → said ≡ Ok project
 few_project_is (Ok other) project is = by (nat_le (length other.files) FILE_LIMIT) (ok_same (few_of other) (Some project) is)
   where

@@ -1,4 +1,4 @@
--- Files that are kept while they are few, and the faults of those that aren't kept.
+-- Files that are kept while they are few, and the faults of files that are not kept.
 use Rattle.std.proofs.Common.{◌≡◌, ℕ, ◌+◌, ◌<◌, ◌≤◌, Bool, true, false, cond, List, [], ◌∷◌, ◌++◌, length, drop, get_or, map, Option, Some, None, Ok, Err, Result, refl, sym, ap, ◌∙◌, arith, inl, inr}
 use Rattle.std.specs.Prelude.{nat_le, filter, codes, not, ◌&&◌}
 use Rattle.std.specs.List.{list_any}
@@ -31,7 +31,7 @@ pub few_more : (kept : Option (List ProjectFile)) (here others : List ProjectFil
 few_more None here others = refl
 few_more (Some files) here others = ap few_files (sym (append_assoc files here others)) ∙ few_cut (files ++ here) others
 
--- no files after those that were kept
+-- adding no files to the kept files changes nothing
 pub few_again : (kept : Option (List ProjectFile)) (here : List ProjectFile) → few_with (few_with kept here) [] ≡ few_with kept here
 few_again kept here = sym (few_more kept here []) ∙ ap (few_with kept) (append-nil here)
 
@@ -53,7 +53,7 @@ matching_faults names found (pattern ∷ patterns) =
       | inr f ↦ ap (λ b. faults_of (cond b (matching_names names more patterns) (Err (NothingMatches pattern)))) f ∙ sym (ap (λ b. cond b (all_match names patterns) (Err (NothingMatches pattern))) f)
     ]
 
--- what is said of a library whose files aren't kept
+-- the check of a library whose files are not kept finds the faults that reading its files finds
 pub checked_is : (names compiler : List (List ℕ)) (library : List ℕ) (table : Members) → checked_library names table ≡ then_read (library_files names compiler library table) (λ more. Ok (few_with None more))
 unfolding library_files
 checked_is names compiler library table = by (required (texts_of Some) (codes "library.") (codes "files") table)

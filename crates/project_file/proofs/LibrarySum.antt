@@ -15,7 +15,7 @@ use Rattle.project_file.specs.Few.{few_with, library_name, AddsTable, AreLibrari
 use Rattle.project_file.proofs.FewSteps.{few_again, then_more}
 use Rattle.project_file.proofs.TomlNames.{named_is, ok_same}
 
--- a fault ends what is said
+-- a fault of the first step is the fault of both steps
 pub fault_ends : {S T : Type 0} (said : Result S ProjectFault) (next : S → Result T ProjectFault) (fault : OrMemory ProjectFault) → ReadsStep said (Err fault) → ReadsStep (then_read said next) (Err fault)
 fault_ends said next memory.NoMemory is = tt
 fault_ends said next (memory.Fault fault) is = ap (λ s. then_read s next) is
@@ -44,7 +44,7 @@ fault_before said make memory.NoMemory is = tt
 fault_before said make (memory.Fault fault) is = made said make fault is
 
 module _ (names compiler : List (List ℕ)) (table : Members) (files : Option (List ProjectFile)) (keys : List FileName) where
-  -- what is said of the tables that follow
+  -- the files of the tables that follow, or their first fault
   abbrev rest_of : List Members → List ℕ → Result (List ProjectFile) ProjectFault
   rest_of rest library = files_of names compiler (libraries_of keys ++ library ∷ []) rest
 

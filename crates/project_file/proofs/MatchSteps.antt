@@ -20,7 +20,7 @@ use Rattle.project_file.specs.PathRows.{part_of, fits_parts}
 use Rattle.project_file.specs.Toml.{is_among, matching_names}
 use Rattle.project_file.specs.Libraries.{texts_at, AreIndices, AddsWanted, TakesMatching}
 
--- parts as they are read, and as they are written
+-- parsed parts match the same components as the written parts
 parts_fit : (parts cs : List (List ℕ)) → fits_parts (map part_of parts) cs ≡ fits_pattern_parts is_any_components is_component_of parts cs
 unfolding fits_pattern_parts
 parts_fit [] [] = refl

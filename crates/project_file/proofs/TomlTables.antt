@@ -30,7 +30,7 @@ unfolding toml_project
 text_is text names table utf8 is =
     cond-true (is_utf8 text) (option_map_or (table_project names) (parse_document text) (Err NotToml)) (Err NotToml) (is_utf8-from_IsUtf8 text utf8) ∙ ap (λ parsed. option_map_or (table_project names) parsed (Err NotToml)) is
 
--- bytes that are no text
+-- bytes that are not UTF-8
 pub no_text : (bytes : List ℕ) (names : List (List ℕ)) → (IsUtf8 bytes → ⊥) → toml_project bytes names ≡ Err NotToml
 unfolding toml_project
 no_text bytes names not_utf8 =

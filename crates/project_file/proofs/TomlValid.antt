@@ -1,4 +1,4 @@
--- The project of a file in TOML is one: its names are distinct and fit, and so do its commands.
+-- The project of a TOML file is valid: its names are distinct, and its names and commands are within the limits.
 use Rattle.std.proofs.Common.{◌≡◌, ◌≢◌, ℕ, zero, suc, ◌<◌, ◌≤◌, Bool, true, false, not, ◌&&◌, cond, List, [], ◌∷◌, ◌++◌, length, map, Option, Some, None, Result, Ok, Err, refl, sym, subst, ◌∙◌, arith, inl, inr}
 use Rattle.std.specs.Prelude.{All, AllPairs, filter, codes, option_map, option_and_then, nat_le, IfOk, IfSome}
 use Rattle.std.specs.List.{list_any}
@@ -61,7 +61,7 @@ word_fits text read h =
     let parts = and_parts _ _ is.0 in
     subst (λ t. IsBetween 1 WORD_LIMIT (length t)) is.1 (record { at_least = leb-true _ _ parts.0; at_most = leb-true _ _ parts.1 })
 
--- words of a command, at least so many of them
+-- words of a command: at least `least` and at most 32, each of 1 to 1,024 bytes
 pub record AreWordsOf (least : ℕ) (words : List (List ℕ)) : Type 0 where
   pub count : IsBetween least LISTED_WORD_LIMIT (length words)
   pub each : All (λ word. IsBetween 1 WORD_LIMIT (length word)) words

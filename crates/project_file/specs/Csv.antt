@@ -34,7 +34,7 @@ is_component part = not (bytes_eq part []) && not (bytes_eq part (46 ∷ [])) &&
 abbrev pub is_path_byte : ℕ → Bool
 is_path_byte byte = nat_le 32 byte && not (byte == 127)
 
--- 1 to 1,024 bytes, none of them a control byte
+-- 1 to 1,024 bytes without a control byte
 abbrev pub has_path_bytes : List ℕ → Bool
 has_path_bytes path = nat_le 1 (length path) && nat_le (length path) PATH_LIMIT && list_all is_path_byte path
 

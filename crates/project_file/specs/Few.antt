@@ -1,4 +1,4 @@
--- What is kept of a project file that gives more files than a project may have: only that it does.
+-- Project files with more files than a project may have: their files are dropped, but their faults are still reported.
 use Rattle.std.specs.Prelude.{◌≡◌, ◌≢◌, AllPairs, ℕ, nat_le, Bool, false, if◌then◌else◌, List, [], ◌∷◌, ◌++◌, length, map, codes, Option, Some, None, Result, Ok, Err}
 use Rattle.std.specs.List.{list_any}
 use Rattle.toml.specs.Data.{Members, as_table}
@@ -26,7 +26,8 @@ few_said said = then_read said (λ project. Ok (few_of project))
 abbrev pub few_files : List ProjectFile → Option (List ProjectFile)
 few_files files = if nat_le (length files) FILE_LIMIT then Some files else None
 
--- more files after those that were kept, or nothing where they are more than may be
+-- the kept files followed by more files; nothing if there are over 4,096 of them, or if the earlier files were dropped
+-- already
 abbrev pub few_with : Option (List ProjectFile) → List ProjectFile → Option (List ProjectFile)
 few_with None more = None
 few_with (Some files) more = few_files (files ++ more)
@@ -75,7 +76,7 @@ pub record IsLookup (names compiler : List (List ℕ)) (tables : List Members) (
   pub index : paths ≡ map alone names
   pub once : AllPairs (λ name other. name ≢ other) names
 
--- ## What is said of a project whose files aren't kept: its faults
+-- ## Faults of a project whose files are not kept
 
 -- the fault of a library's table whose files are too many to keep, if it has one
 abbrev pub checked_library : List (List ℕ) → Members → Result (Option (List ProjectFile)) ProjectFault

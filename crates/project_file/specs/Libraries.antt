@@ -1,4 +1,4 @@
--- What is known of the libraries and the names of files that were read so far.
+-- The libraries and the names of files that were read so far.
 use Rattle.std.specs.Prelude.{◌≡◌, ℕ, ◌<◌, ◌≤◌, Bool, true, false, not, ◌&&◌, List, [], ◌∷◌, ◌++◌, length, map, filter, All, slice_index_or, Result, Ok, Err}
 use Rattle.std.specs.List.{list_any}
 use Rattle.base_collections.specs.Numbers.{NumbersBelow, IsAdded}
@@ -39,13 +39,14 @@ abbrev pub AddsWanted : Bool → ℕ → NumbersBelow → NumbersBelow → Type 
 AddsWanted true file_index old new = (is_new : Bool) × IsAdded is_new file_index old new
 AddsWanted false file_index old new = new ≡ old
 
--- the names that a pattern matches come after those that were found, where they aren't among these
+-- the names that a pattern matches are appended to the names found before, except for names that are among these already
 pub record TakesMatching (names : List (List ℕ)) (pattern : List ℕ) (old new : NumbersBelow) (any : Bool) : Type 0 where
   pub some : any ≡ list_any (matches_path pattern) names
   pub indices : AreIndices names new
   pub found : texts_at names new.numbers ≡ texts_at names old.numbers ++ filter (λ name. matches_path pattern name && not (is_among (texts_at names old.numbers) name)) names
 
--- the names that patterns match come after those that were found
+-- the names that patterns match are appended to the names found before, or a pattern matches no name; memory may also run
+-- out
 abbrev pub TakesNames : List (List ℕ) → List (List ℕ) → NumbersBelow → NumbersBelow → Result (Unit {0}) (OrMemory ProjectFault) → Type 0
 TakesNames names patterns old new (Ok done) = (matching_names names (texts_at names old.numbers) patterns ≡ Ok (texts_at names new.numbers)) × AreIndices names new
 TakesNames names patterns old new (Err memory.NoMemory) = Unit {0}

@@ -53,18 +53,18 @@ array_of read value = option_and_then (λ items. all_read read (list_of items)) 
 abbrev pub texts_of : (List ℕ → Option (List ℕ)) → Data → Option (List (List ℕ))
 texts_of form value = array_of (text_of form) value
 
--- words, where they are at least so many and at most 32
+-- words, if there are at least `least` and at most 32 of them
 abbrev pub few : ℕ → List (List ℕ) → Option (List (List ℕ))
 few least words = if nat_le least (length words) && nat_le (length words) LISTED_WORD_LIMIT then Some words else None
 
--- an array of texts that may be words, at least so many and at most 32
+-- an array of texts that are words of a command, at least `least` and at most 32 of them
 abbrev pub words_of : ℕ → Data → Option (List (List ℕ))
 words_of least value = option_and_then (few least) (texts_of word_in value)
 
 -- ## Keys
 
--- The value of a key of a table, or that it is of another form, or else what is said where the key is missing. Faults
--- name the key after the words for its table.
+-- The value of a key of a table, read by `read`. If `read` rejects the value, its type is a fault, which names the key after
+-- `file_index`. If the key is missing, the result is `missing`.
 abbrev pub value_or : {T : Type 0} → Result T ProjectFault → (Data → Option T) → List ℕ → List ℕ → Members → Result T ProjectFault
 value_or missing read file_index key table = option_map_or (λ value. ok_or (read value) (WrongType (file_index ++ key))) (get_member key table) missing
 

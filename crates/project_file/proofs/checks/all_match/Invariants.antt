@@ -1,4 +1,5 @@
--- What the loop of `all_match` keeps: what is said of the other patterns is said of all.
+-- The invariant of the loop of `all_match`: the check of the remaining patterns has the same result as the check of all
+-- patterns.
 use Rattle.std.proofs.Common.{◌≡◌, drop}
 use Rattle.project_file.specs.Few.{all_match}
 use Rattle.project_file.proofs.checks.all_match.Given as goal

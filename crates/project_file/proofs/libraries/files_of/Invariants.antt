@@ -1,4 +1,5 @@
--- What the loop of `files_of` keeps: what is said of the other tables after the files so far is what is said of all.
+-- The invariant of the loop of `files_of`: the files so far and those of the remaining tables are the files of all tables,
+-- with the same fault if there is one.
 use Rattle.std.proofs.Common.{◌≡◌, ◌≤◌, [], Ok, take, drop, map, length}
 use Rattle.toml.specs.View.{table_view}
 use Rattle.base.specs.declared.file.FileName.{FileName}

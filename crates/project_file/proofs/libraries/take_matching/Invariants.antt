@@ -1,4 +1,4 @@
--- What the loop of `take_matching` keeps: of the names so far, those that the pattern matches are taken.
+-- The invariant of the loop of `take_matching`: the names so far that the pattern matches are taken.
 use Rattle.std.proofs.Common.{◌≡◌, ◌++◌, take}
 use Rattle.std.specs.Prelude.{filter}
 use Rattle.std.specs.List.{list_any}

@@ -1,4 +1,5 @@
--- What the loop of `check_pairs` keeps: what is said of the other dependencies is said of all.
+-- The invariant of the loop of `check_pairs`: the check of the remaining dependencies has the same result as the check of
+-- all.
 use Rattle.std.proofs.Common.{◌≡◌, List, [], ℕ, Ok, drop, map}
 use Rattle.toml.specs.View.{table_view}
 use Rattle.base.specs.declared.project.ProjectFile.{ProjectFile}

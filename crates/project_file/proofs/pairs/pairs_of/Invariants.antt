@@ -1,4 +1,5 @@
--- What the loop of `pairs_of` keeps: what is said of the other tables after the dependencies so far is what is said of all.
+-- The invariant of the loop of `pairs_of`: the dependencies so far and those of the remaining tables are those of all
+-- tables, with the same fault if there is one.
 use Rattle.std.proofs.Common.{◌≡◌, ◌++◌, Ok, drop, map}
 use Rattle.toml.specs.View.{table_view}
 use Rattle.project_file.specs.Csv.{then_read}
