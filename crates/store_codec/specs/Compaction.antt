@@ -28,7 +28,7 @@ compacted_ref texts text = ref_or (position (λ other. bytes_eq other text) text
 abbrev pub with_compacted_text : List (List ℕ) → List ℕ → List (List ℕ)
 with_compacted_text texts text = with_text texts (compacted_ref texts text)
 
--- the number of a product, or where it isn't there the number of products
+-- the number of a product in a list, or the length of the list if it doesn't contain the product
 abbrev pub number_of_built : List BuiltFile → BuiltFile → ℕ
 number_of_built products product = position_or_len (λ other. is_same_built other product) products
 

@@ -15,13 +15,13 @@ use Rattle.base_bytes.specs.TextRefs.TextRef.{ByNumber, InFull}
 abbrev pub request_form : ℕ
 request_form = 3
 
--- a product as it is spelled: a file, and the artefact that a compiler gave for it
+-- A product in a payload: the name of a file, and its artefact, by number or in full.
 pub record ProductDraft : Type 0 where
   pub name : FileName
   pub artefact : TextRef
 
--- a record as it is spelled: a file, the words of its compiler, its text, the numbers of the products of all files that it
--- depends on, in graph order, and the artefact
+-- A record in a payload: the name of a file, the words of its command, and its text, by number or in full. Then follow the numbers
+-- of the products of all files that it depends on, in graph order, and its artefact, by number or in full.
 pub record RequestDraft : Type 0 where
   pub name : FileName
   pub command : List (List ℕ)
