@@ -75,7 +75,7 @@ making_hands form side bytes one other dead gone = (
   ),
 )
 
--- what is known when a journal changes to a newer form
+-- the conditions under which a journal changes to a newer form
 pub record Changes (journal : JournalState) (disk : DiskState) (side : Side) (bytes : List ℕ) (content : SideContent) : Type 0 where
   pub in_step : IsInStep journal disk
   pub other : side ≡ other_side journal.live

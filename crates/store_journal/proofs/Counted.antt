@@ -16,11 +16,11 @@ use Rattle.store_journal.proofs.Stays.{found_newer, newer_gone, older_live}
 found_same : (newer older : ℕ) (before image : Image) → CountsSame newer older before image → found_form newer older image ≡ found_form newer older before
 found_same newer older before image same = ap (λ (b : Bool). if b then older else newer) same.counts
 
--- what counts for the same counts for none where the other does,
+-- if nothing counts in one image, nothing counts in an image that holds the same
 pub none_as : (newer older : ℕ) (before image : Image) → CountsSame newer older before image → CountsNone newer older before → CountsNone newer older image
 none_as newer older before image same none = ap (λ (f : ℕ). payloads f image) (found_same newer older before image same) ∙ same.same ∙ none
 
--- and the other way round
+-- if nothing counts in an image that holds the same as another, nothing counts in that one
 pub none_of : (newer older : ℕ) (before image : Image) → CountsSame newer older before image → CountsNone newer older image → CountsNone newer older before
 none_of newer older before image same none = sym same.same ∙ sym (ap (λ (f : ℕ). payloads f image) (found_same newer older before image same)) ∙ none
 
@@ -30,7 +30,7 @@ none_where_dead newer older side left dead =
     let form = found_form newer older (paired side [] left) in
     no_form_payloads form (paired side [] left) (no_form_paired form side [] left (none_dead form) (dead form))
 
--- nor where the newer form is live without payloads,
+-- if the newer form is live without payloads, nothing counts
 pub none_where_live : (newer older : ℕ) (image : Image) → has_form newer image ≡ true → payloads newer image ≡ [] → CountsNone newer older image
 none_where_live newer older image live none =
     ap (λ (f : ℕ). payloads f image) (found_newer newer older image (ap (λ (b : Bool). not b && has_form older image) live)) ∙ none
@@ -43,7 +43,7 @@ same_found : (test : Bool) (newer older : ℕ) → older ≡ newer → (if test 
 same_found true newer older same = same
 same_found false newer older same = refl
 
--- nor where it has none, and the older one isn't live or is the same
+-- nothing counts either if the newer form has no payloads and the older form isn't live or is the same form
 pub none_where_apart : (newer older : ℕ) (image : Image) → payloads newer image ≡ [] → (older ≡ newer) ⊎ (has_form older image ≡ false) → CountsNone newer older image
 none_where_apart newer older image none (inl same) = ap (λ (f : ℕ). payloads f image) (same_found (older_counts newer older image) newer older same) ∙ none
 none_where_apart newer older image none (inr gone) =
@@ -86,7 +86,7 @@ neither_if newer older image false is none =
 pub neither_live : (newer older : ℕ) (image : Image) → counting (found_form newer older image) image ≡ None → (has_form newer image ≡ false) × (has_form older image ≡ false)
 neither_live newer older image none = neither_if newer older image (older_counts newer older image) refl none
 
--- what is made of the payloads of the form that counts is the same where these are,
+-- a value computed from the payloads of the form that counts is the same for images that hold the same
 value_if : {T : Type 0} (from_older from_newer : List (List ℕ) → T) (newer older : ℕ) (before image : Image) (now was : Bool) → now ≡ was → payloads (if was then older else newer) image ≡ payloads (if was then older else newer) before
     → (if now then from_older (payloads older image) else from_newer (payloads newer image)) ≡ (if was then from_older (payloads older before) else from_newer (payloads newer before))
 value_if from_older from_newer newer older before image true true is same = ap from_older same
@@ -98,7 +98,7 @@ pub same_value : {T : Type 0} (from_older from_newer : List (List ℕ) → T) (n
     → (if older_counts newer older image then from_older (payloads older image) else from_newer (payloads newer image)) ≡ (if older_counts newer older before then from_older (payloads older before) else from_newer (payloads newer before))
 same_value from_older from_newer newer older before image same = value_if from_older from_newer newer older before image (older_counts newer older image) (older_counts newer older before) same.counts same.same
 
--- and what is made of none where there are none
+-- if the form that counts has no payloads, the value is the one for no payloads
 none_if : {T : Type 0} (from_older from_newer : List (List ℕ) → T) (none : T) (newer older : ℕ) (image : Image) (test : Bool) → from_older [] ≡ none → from_newer [] ≡ none → payloads (if test then older else newer) image ≡ []
     → (if test then from_older (payloads older image) else from_newer (payloads newer image)) ≡ none
 none_if from_older from_newer none newer older image true one two is = ap from_older is ∙ one

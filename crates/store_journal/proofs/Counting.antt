@@ -58,12 +58,12 @@ pub counting_live : (form : ℕ) (image : Image) (side : Side) → counting form
 counting_live form image side counts =
     picked_live (is_live form image.a) (is_live form image.b) (nat_lt (generation_of image.a) (generation_of image.b)) side (λ (s : Side). is_live form (image_side s image)) refl refl (sym (counting_is form image) ∙ counts)
 
--- a live side counts where the other isn't live
+-- if the given side isn't live and the other one is, the other side counts
 pub other_counts : (form : ℕ) (side : Side) (one other : List ℕ) → is_live form one ≡ false → is_live form other ≡ true → counting form (paired side one other) ≡ Some (other_side side)
 other_counts form A one other dead live = counting_is form (record { a = one; b = other }) ∙ rw (dead, live) refl
 other_counts form B one other dead live = counting_is form (record { a = other; b = one }) ∙ rw (dead, live) refl
 
--- and so it is the other way round
+-- if the given side is live and the other one isn't, the given side counts
 pub only_counts : (form : ℕ) (side : Side) (one other : List ℕ) → is_live form one ≡ true → is_live form other ≡ false → counting form (paired side one other) ≡ Some side
 only_counts form A one other live dead = counting_is form (record { a = one; b = other }) ∙ rw (dead, live) refl
 only_counts form B one other live dead = counting_is form (record { a = other; b = one }) ∙ rw (dead, live) refl

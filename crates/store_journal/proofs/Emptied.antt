@@ -23,7 +23,7 @@ use Rattle.store_journal.proofs.SideImages.{cut_image, each_of_one, settled_stat
 pub step_live : (form : ℕ) (journal : JournalState) (disk : DiskState) → IsInStep journal disk → journal.form ≡ form → has_form form (reads_of disk) ≡ true
 step_live form journal disk in_step is = ap (λ (f : ℕ). has_form f (reads_of disk)) (sym is) ∙ counts_has_form journal.form (reads_of disk) journal.live in_step.counts
 
--- what is known where a side counts for the form that is found
+-- a side counts for the form that counts, the disk is settled, and the bytes spell an empty side of the newer form
 pub record IsCounted (newer older : ℕ) (disk : DiskState) (live other : Side) (bytes : List ℕ) : Type 0 where
   pub settled_so : disk ≡ settled_disk (reads_of disk)
   pub counts : counting (found_form newer older (reads_of disk)) (reads_of disk) ≡ Some live

@@ -87,7 +87,7 @@ emptying_each P side bytes one rest prefix dead made = (
   ),
 )
 
--- what is known when a disk is emptied
+-- the conditions under which the sides of a disk are emptied
 pub record Empties (newer older : ℕ) (disk : DiskState) (side : Side) (bytes one rest : List ℕ) : Type 0 where
   pub settled_so : disk ≡ states side (settled one) (settled (1 ∷ rest))
   pub prefix : (k : ℕ) → CountsSame newer older (reads_of disk) (paired side (take k one) (1 ∷ rest))

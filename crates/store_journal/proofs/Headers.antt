@@ -34,12 +34,12 @@ side_payloads form generation payloads small =
     let count = 19 + length (flat_map block payloads) in
     spelled_payloads count payloads (side_bytes form generation payloads) (closed_ends count payloads (side_bytes form generation payloads) (side_closed form generation payloads small))
 
--- So many payloads are written, of a side of all of them.
+-- The first `i` payloads of a side are written.
 pub record IsWrittenTo (form generation : ℕ) (payloads : List (List ℕ)) (i : ℕ) (out : List ℕ) : Type 0 where
   pub parts : 1 ∷ (out ++ (flat_map block (drop i payloads) ++ 0 ∷ [])) ≡ side_bytes form generation payloads
   pub small : (k : ℕ) → k < i → length (get_or payloads k []) < 2 ^ 32
 
--- before the first payload
+-- at first, no payload is written
 pub write_begins : (form generation : ℕ) (payloads : List (List ℕ)) (out : List ℕ) → 1 ∷ out ≡ header form generation → IsWrittenTo form generation payloads 0 out
 unfolding side_bytes
 write_begins form generation payloads out begun = record {

@@ -81,7 +81,7 @@ last_byte form side bytes one other old new leaves made byte =
       | inr differs ↦ inl (leaves.dead (byte ∷ bytes) (first_dead form byte bytes differs))
     ]
 
--- Inside of each step of making a side that can be torn, the payloads are the old ones, or those that the made side gives.
+-- During each step of making a side, the payloads are the old ones or the payloads of the finished side.
 pub making_either : (form : ℕ) (side : Side) (bytes one other : List ℕ) (old new : List (List ℕ)) → Leaves form side one other old → payloads form (paired side (1 ∷ bytes) other) ≡ new → AllByRecursion (λ (step : Step). EachImage (HasEither form old new) step.during) (made_steps side bytes one other)
 making_either form side bytes one other old new leaves made =
     let P = HasEither form old new in

@@ -9,7 +9,7 @@ use Rattle.store_journal.proofs.Counting.{other_again}
 use Rattle.store_journal.proofs.Made.{HasEither, HasNew}
 use Rattle.store_journal.proofs.Standing.{with_side, leaves_counted, making_moments, making_loses, made_disk, made_payloads, made_in_step, replaced_counts}
 
--- what is known when a journal replaces its side
+-- the conditions under which a journal replaces its side
 pub record Replaces (journal : JournalState) (disk : DiskState) (side : Side) (bytes : List ℕ) (content : SideContent) : Type 0 where
   pub in_step : IsInStep journal disk
   pub other : side ≡ other_side journal.live

@@ -4,6 +4,6 @@ use Rattle.outside.specs.Disks.{DiskState, Moments, Goes}
 use Rattle.store_journal.specs.Steps.{Step, Went, then_steps}
 use Rattle.store_journal.proofs.Went.{went_on}
 
--- the first step is done, and the others go on from the disk as it is
+-- if the first step is done and the others run from the disk that it left, all steps have run
 pub went_then : (step : Step) (rest : DiskState → List Step) (old middle new : Moments) → Goes step.during old middle → middle.now ≡ step.after → Went (rest middle.now) middle new → Went (then_steps step rest) old new
 went_then step rest old middle new goes is went = went_on step (rest step.after) old middle new goes is (subst (λ (s : DiskState). Went (rest s) middle new) is went)

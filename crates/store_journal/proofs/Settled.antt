@@ -3,7 +3,7 @@ use Rattle.std.proofs.Common.{refl, sym, subst, arith}
 use Rattle.outside.specs.Disks.{EachImage, Image, IsImage, settled_disk}
 use Rattle.outside.proofs.ImageLaws.{settled_disk_only}
 
--- a disk of an image alone: what it has, each image of the disk has
+-- the settled disk of an image has that image only: a property of the image holds for each image of the disk
 pub settled_each : (P : Image → Type 0) (image : Image) → P image → EachImage P (settled_disk image)
 settled_each P image has other is = subst P (sym (settled_disk_only image other is)) has
 

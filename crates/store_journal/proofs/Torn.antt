@@ -10,7 +10,7 @@ use Rattle.outside.specs.Disks.{Image, IsImage, IsSideImage, image_side, on_side
 use Rattle.outside.proofs.ImageLaws.{length-overwritten, overwritten_before, overwritten_after, settled_only}
 use Rattle.store_journal.specs.Journals.{other_side}
 
--- bytes that a write may leave of others: none is lost, and they are the same where it doesn't reach
+-- bytes that a write may leave when it is interrupted: no byte is lost, and bytes outside its range are unchanged
 pub record IsTorn (at count : ℕ) (old new : List ℕ) : Type 0 where
   pub no_shorter : length old ≤ length new
   pub no_longer : length new ≤ max (length old) (at + count)

@@ -58,9 +58,9 @@ CountsNone newer older image = payloads (found_form newer older image) image ≡
 abbrev pub CountsSameOrNone : (newer older : ℕ) → (before image : Image) → Type 0
 CountsSameOrNone newer older before image = CountsSame newer older before image ⊎ CountsNone newer older image
 
--- Both sides of a disk are emptied, or were being emptied: at any moment an image holds what reads gave before of the form
--- that counts, or nothing counts, and once nothing counts in any image, nothing does. Once it is done the newer form is live
--- without payloads, and the journal is in step.
+-- A run empties both sides of a disk, or fails while it does. At any moment, each image holds the payloads of the form that
+-- counted at first, or nothing counts in it. Once nothing counts in any image, nothing counts at any later moment. After success,
+-- the newer form is live without payloads, and the journal is in step.
 pub record EmptiesSides {E : Type 0} (newer older : ℕ) (result : Result JournalState E) (old new : Moments) : Type 0 where
   pub any_moment : AtAnyMoment old new (CountsSameOrNone newer older (reads_of old.now))
   pub loses : NeverLoses old new (CountsNone newer older)

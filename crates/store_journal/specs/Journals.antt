@@ -42,8 +42,8 @@ pub record HasClosedCommitByteAt (count : ℕ) (payloads : List (List ℕ)) (byt
   pub spelled : IsSpelled count payloads bytes
   pub closed : spelled.commit_byte ≢ 1
 
--- The disk is the one that the journal knows, and only the journal wrote it since: a stop can leave what reads give, the
--- side that counts is the journal's, and its closed commit byte is where the journal writes next.
+-- The journal's state describes the disk. The disk is settled: a stop leaves exactly the bytes that reads return. The side that
+-- counts, and its generation, are the journal's, and the side's closed commit byte is the last of the journal's bytes.
 pub record IsInStep (journal : JournalState) (disk : DiskState) : Type 0 where
   pub settled : disk ≡ settled_disk (reads_of disk)
   pub counts : counting journal.form (reads_of disk) ≡ Some journal.live

@@ -32,7 +32,7 @@ unfoldable pub payload_at : List ℕ → Option (List ℕ × List ℕ)
 payload_at [] = None
 payload_at (commit_byte ∷ rest) = if commit_byte == 1 then option_and_then gated (text_at rest) else None
 
--- the payloads from a commit byte on, at most so many
+-- the payloads from a commit byte on, at most the given number of them
 unfoldable pub payloads_upto : ℕ → List ℕ → List (List ℕ)
 payloads_upto zero bytes = []
 payloads_upto (suc n) bytes = option_map_or (λ read. read.0 ∷ payloads_upto n read.1) (payload_at bytes) []

@@ -8,7 +8,7 @@ pub record Step : Type 0 where
   pub during : DiskState
   pub after : DiskState
 
--- The moments of steps, one after the other, of which the last one begun may have failed or not.
+-- The moments of steps that run in order, up to some step. Each step before that one succeeded; that one may have failed.
 unfoldable pub Went : List Step → Moments → Moments → Type 0
 Went [] old new = ⊥
 Went (step ∷ steps) old new = Goes step.during old new ⊎ ((middle : Moments) × Goes step.during old middle × (middle.now ≡ step.after) × Went steps middle new)

@@ -10,7 +10,7 @@ use Rattle.store_journal.specs.Payloads.{block, payload_at}
 abbrev pub IsWindowOf : List ℕ → Window → Type 0
 IsWindowOf reads window = window.bytes.items ≡ bytes_at window.start (length window.bytes.items) reads
 
--- A window has so many bytes from an offset on.
+-- A window contains the given number of bytes from an offset on.
 pub record Covers (window : Window) (at count : ℕ) : Type 0 where
   pub from : window.start ≤ at
   pub to : at + count ≤ window.start + length window.bytes.items
