@@ -113,7 +113,7 @@ module _ (project : Project) (texts : List (List ℕ)) (is : IsProject project) 
       IsGraph-prefix (listed project.files (done ++ text ∷ [])) (listed_from (0 + length (done ++ text ∷ [])) (drop (length (done ++ text ∷ [])) project.files) more)
       (subst IsGraph (ap (listed project.files) (sym whole) ∙ listed_from-append 0 project.files (done ++ text ∷ []) more) listed_is_graph)
 
-  -- the file at the position after those that are done
+  -- the next file of the list extends the graph of the files before it
   pub next_file : (files : List ProjectFile) (done more : List (List ℕ)) (text : List ℕ) (graph : List Entry) (rank : ℕ) → files ≡ project.files → graph ≡ listed files done → done ++ (text ∷ more) ≡ texts → rank ≡ length graph
       → (rank < length files) × ((file : ProjectFile) (entry : Entry) → file ≡ get_or files rank file → entry ≡ listed_entry rank file text → IsGraph (graph ++ entry ∷ []) × (graph ++ entry ∷ [] ≡ listed files (done ++ text ∷ [])))
   next_file files done more text graph rank same so_far whole at =

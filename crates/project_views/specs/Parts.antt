@@ -3,8 +3,8 @@ use Rattle.std.specs.Prelude.{ℕ, ◌<◌, List, length, All, Contains, slice_i
 use Rattle.std.specs.List.Sorted.{IsStrictlyIncreasing}
 use Rattle.base.specs.declared.graph.Entry.{Entry}
 
--- Rising positions of files that depend on each other alone. In a graph of three packages, of which the third depends
--- on the first alone, these are 0 and 2, and 0 alone, but not 2 alone.
+-- Rising positions of files that depend only on files at these positions. For example, in a graph of three packages, let only
+-- the third depend on another package, the first. Then 0 and 2 are such positions, and so is 0 alone, but 2 alone isn't.
 pub record IsPart (graph : List Entry) (positions : List ℕ) : Type 0 where
   pub rising : IsStrictlyIncreasing positions
   pub within : All (λ position. position < length graph) positions
