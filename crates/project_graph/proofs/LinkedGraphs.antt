@@ -184,7 +184,7 @@ module _ (project : Project) (texts : List (List ℕ)) (edges : List (List ℕ))
       deps ∙ ap (λ (xs : List ℕ). filter (has row) (below (length xs))) o ∙ filter_below (has row) (λ k. reaches edges (get_or order rank 0) (get_or order k 0)) (length order) rows_say in
       same_entry entry (file_at rank).name (file_at rank).command (get_or texts (get_or order rank 0) []) (closure_of edges order (get_or order rank 0)) (name ∙ ap (λ (x : ProjectFile). x.name) the_file) (command ∙ ap (λ (x : ProjectFile). x.command) the_file) text the_deps
 
--- after the text of the file at a rank was taken, those of the files at later ranks are as they were
+-- taking the text of the file at a rank leaves the texts of the files at later ranks unchanged
 pub left_texts : (edges : List (List ℕ)) (order : List ℕ) → IsBuildOrder edges order → (texts left : List (List ℕ)) (rank : ℕ)
     → ((at : ℕ) → rank ≤ at → at < length order → get_or left (get_or order at 0) [] ≡ get_or texts (get_or order at 0) [])
     → (at : ℕ) → rank + 1 ≤ at → at < length order → get_or (set left (get_or order rank 0) []) (get_or order at 0) [] ≡ get_or texts (get_or order at 0) []
