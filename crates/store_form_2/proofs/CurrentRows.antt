@@ -1,4 +1,4 @@
--- The requests of the rows that are current, one row after the other, are those that stand for the latest records.
+-- The requests of the current rows, in order, are the requests that stand for the latest records.
 use Rattle.std.proofs.Common.{◌≡◌, ℕ, ◌+◌, ◌<◌, ◌≤◌, Bool, true, false, not, ◌&&◌, List, [], ◌∷◌, ◌++◌, length, map, get_or, drop, Option, Some, None, refl, sym, ap, ◌∙◌, arith}
 use Rattle.std.specs.Prelude.{All, is_some, if◌then◌else◌}
 use Rattle.std.specs.List.{filter_map, cons_option, list_all}
@@ -105,7 +105,7 @@ module _ (texts : List (List ℕ)) (nodes : List Node) (are : AreNodes texts nod
       one_more rows k (from_here (k + 1)) (has_later nodes records k (get_or records k no_record).node) (stands_at texts nodes records k) (request_is_some texts nodes records k)
       ∙ sym (ap (λ (r : List Record). filter_map request_at rows ++ r) (location_is k l))
 
-  -- past the last record there is none
+  -- past the last record, no request is left
   pub from_end : (n : ℕ) → length records ≤ n → from_here n ≡ []
   unfolding latest_views
   from_end n le = ap (λ (xs : List NodeRecord). filter_map (request_for all_views) (latest_views (map (unfolded_record texts nodes) xs))) (drop_all n records le)

@@ -9,7 +9,7 @@ use Rattle.store_form_2.proofs.TakingSteps.{IsNew, is_new}
 use Rattle.base_collections.specs.Numbers.{IsIndexOf}
 use Rattle.store_form_2.proofs.SameNodes.{any_decides, nodes_decide}
 
--- what lacks a part is no draft
+-- a draft that breaks a condition of `IsNew` fails its test
 pub no_draft : (contents : Contents) (draft : Draft) → ¬ (IsNew contents draft) → is_draft contents draft ≡ false
 no_draft contents draft never = by (is_draft contents draft) refl
   where
@@ -26,7 +26,7 @@ no_deps contents draft never = no_draft contents draft (λ new. never new.deps)
 pub no_new : (contents : Contents) (draft : Draft) → Contains contents.nodes (draft_node contents.texts draft) → is_draft contents draft ≡ false
 no_new contents draft has = no_draft contents draft (λ new. true≢false (sym ((any_decides nodes_decide contents.nodes (draft_node contents.texts draft)).1 has) ∙ new.node))
 
--- what has a location is there, and what has none isn't
+-- an item with an index is in the list, and an item without one isn't
 pub located : {X : Type 0} (xs : List X) (x : X) (location : Option ℕ) → IsIndexOf xs x location → is_some location ≡ true → Contains xs x
 located xs x None is e = absurd cc
 located xs x (Some n) is e = (n, slice_get_within xs n x is, get_or_from_slice_get xs n x x is)

@@ -20,7 +20,7 @@ yes_answer p = (λ e. p, λ q. refl)
 pub taken : (xs : List ℕ) (i : ℕ) → i < length xs → take i xs ++ get_or xs i 0 ∷ [] ≡ take (i + 1) xs
 taken xs i l = let next : suc i ≡ i + 1 = omega arith in sym (take-suc xs i 0 l) ∙ ap (λ (n : ℕ). take n xs) next
 
--- one of the first is none of the others
+-- in a list without repeats, an item isn't among the items before it
 pub not_twice : (xs : List ℕ) (i : ℕ) → AllPairs (λ a b. a ≢ b) xs → i < length xs → ¬ Contains (take i xs) (get_or xs i 0)
 not_twice xs i once l has =
     let low : has.0 < i = omega (arith, has.1, length-take-le i xs (omega arith)) in

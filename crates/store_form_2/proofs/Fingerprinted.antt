@@ -19,7 +19,7 @@ module _ (texts : List (List ℕ)) (fingerprints : List ℕ) (text : List ℕ) (
   other_text : (k : ℕ) → k < length texts → get_or fingerprints k 0 ≢ fingerprint_of text → get_or texts k [] ≢ text
   other_text k l other same = other (fingerprint_at k l ∙ ap fingerprint_of same)
 
-  -- none of them is it
+  -- no text below the bound equals the given text
   none_below : (bound : ℕ) → IsLastWith fingerprints (fingerprint_of text) bound None → (k : ℕ) → k < bound → k < length texts → get_or texts k [] ≢ text
   none_below bound last k low l = other_text k l (last k low)
 

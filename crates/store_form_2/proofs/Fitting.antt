@@ -1,4 +1,4 @@
--- A new file unfolds to a graph exactly where it fits those that it depends on.
+-- A new file unfolds to a graph exactly if it fits the files that it depends on.
 use Rattle.std.proofs.Common.{◌≡◌, ℕ, suc, ◌+◌, ◌<◌, eqb, List, [], ◌∷◌, ◌++◌, length, map, get_or, refl, sym, ap, subst, ◌∙◌, arith, inl, inr, length-append}
 use Rattle.std.specs.Prelude.{All, Contains, sum_by}
 use Rattle.std.specs.List.Sorted.{IsStrictlyIncreasing}
@@ -122,7 +122,7 @@ module _ (files : List Entry) (entry : Entry) (unfolds : Unfolds files (length f
       ∙ ap (λ (p : ℕ). renumbered positions (get_or all p no_entry)) (last (length deps) refl)
       ∙ ap (renumbered positions) own
 
-  -- what is known of a dependency by its own view
+  -- each file is an entry at the last rank of its own view
   own_entry : (p : ℕ) → p < n → IsEntryAt (view files p) (length (get_or files p no_entry).deps) (renumbered (viewed files p) (get_or files p no_entry))
   own_entry p l =
       let inside : List ℕ = (get_or files p no_entry).deps in

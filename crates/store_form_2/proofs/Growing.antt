@@ -62,7 +62,7 @@ pub file_at : (texts : List (List ℕ)) (nodes : List Node) (number : ℕ) → n
 unfolding node_files
 file_at texts nodes number lt = get_or-map (node_file texts) nodes number no_node no_entry lt
 
--- what is known of all nodes
+-- each node has a text that exists
 pub texts_there : (texts : List (List ℕ)) (nodes : List Node) → AreNodes texts nodes → TextsThere texts nodes
 texts_there texts nodes are k d l = (are.each k d l).text
 

@@ -44,7 +44,7 @@ module _ {X Y : Type 0} (f : X → Option Y) where
   abbrev IsThere : X → Type 0
   IsThere x = (y : Y) × (f x ≡ Some y)
 
-  -- where all values are there, each is, and the other way round
+  -- `each_of` has a result exactly if each value exists
   pub each_there : (xs : List X) (ys : List Y) → each_of (map f xs) ≡ Some ys → All IsThere xs
   each_there [] ys h = All-nil IsThere
   each_there (x ∷ xs) ys h =

@@ -1,4 +1,4 @@
--- Rows of requests, sorted by rank: their requests are those that stand for the records of views.
+-- Rows of requests, sorted by rank: their requests are the ones that stand for the records of views.
 use Rattle.std.proofs.Common.{◌≡◌, true, ◌+◌, ◌<◌, List, [], ◌∷◌, length, map, get_or, Option, Some, None, sym, ap, subst, refl, ◌∙◌, arith}
 use Rattle.std.specs.Prelude.{ℕ, All, AllPairs, IsPermutation, IsSorted, is_some}
 use Rattle.std.specs.Cmp.{IsTotalOrder, nat_cmp_total, on_total, then_total}
@@ -144,7 +144,7 @@ module _ (texts : List (List ℕ)) (nodes : List Node) (numbers : List ℕ) (rec
           ∙ ranked_once (map request_of rows) (map request_of ordered) (IsPermutation-map request_of rows ordered (rows_moved nodes numbers rows ordered are)) ordered_rise (subst (AllPairs OfOtherName) found differ)
           ∙ sym (ap ranked found)
 
-      -- where they are those for the latest records, they are those that stand for all records
+      -- if the requests of the rows stand for the latest records, the requests of the sorted rows are the migrated ones
       pub are_migrated : filter_map request_at rows ≡ filter_map (request_for (map (unfolded_record texts nodes) records)) (latest_views (map (unfolded_record texts nodes) records))
           → filter_map request_at ordered ≡ migrated_requests (map (unfolded_record texts nodes) records)
       unfolding migrated_requests

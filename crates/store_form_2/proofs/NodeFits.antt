@@ -85,7 +85,7 @@ new_fits texts more nodes node other are there =
       λ valid. fits_default (node_files texts nodes) (node_file (texts ++ more) node) no_entry other low (both.1 valid),
     )
 
--- the dependencies of a node, as it is and as a file
+-- a node and its file have the same dependencies
 deps_same : (texts : List (List ℕ)) (nodes : List Node) (p : ℕ) (other : Node) → p < length nodes → (get_or nodes p other).deps ≡ (get_or (node_files texts nodes) p no_entry).deps
 deps_same texts nodes p other lt = ap (λ (n : Node). n.deps) (get_or_default nodes p other no_node lt) ∙ sym (ap (λ (e : Entry). e.deps) (file_at texts nodes p lt))
 

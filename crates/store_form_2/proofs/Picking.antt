@@ -1,4 +1,5 @@
--- What holds of all items holds of all that is picked of them, and of each and each later one.
+-- A property that each item passes on to its picked value holds for all picked values. The same is true for a relation between
+-- each item and each later one.
 use Rattle.std.proofs.Common.{◌≡◌, suc, List, [], ◌∷◌, length, map, Option, Some, None, refl, sym, ap, ◌∙◌, arith}
 use Rattle.std.specs.Prelude.{All, AllPairs}
 use Rattle.std.specs.List.{filter_map, cons_option}
@@ -21,7 +22,7 @@ module _ {X Y : Type 0} (f : X → Option Y) where
   pub picked_more : (x : X) (xs : List X) (here : Option Y) → f x ≡ here → filter_map f (x ∷ xs) ≡ cons_option here (filter_map f xs)
   picked_more x xs here h = ap (λ (y : Option Y). cons_option y (filter_map f xs)) h
 
-  -- what holds of all that is picked of one item, and of all others
+  -- a property of the value picked for one item, if any, and of all other values holds for the whole list
   all_more : (Q : Y → Type 0) (ys : List Y) (here : Option Y) → ((y : Y) → here ≡ Some y → Q y) → All Q ys → All Q (cons_option here ys)
   all_more Q ys None one others = others
   all_more Q ys (Some y) one others = All-cons Q y ys (one y refl) others

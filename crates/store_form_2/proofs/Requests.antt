@@ -19,7 +19,8 @@ use Rattle.store_form_2.proofs.Picking.{All-filter_map}
 use Rattle.store_form_2.proofs.Ranking.{pairs_ranked}
 use Rattle.store_form_2.proofs.LatestViews.{All-latest_views, each_fails}
 
--- A record is the request that stands for one of a view: of its last file, over the files below it as they were built.
+-- A record is the request that stands for a record of a view. It asks for the view's last file, over the built form of each file
+-- that this file depends on.
 pub record StandsFor (records : List ViewRecord) (kept : ViewRecord) (is : Record) : Type 0 where
   pub entry : Entry
   pub last : last_file kept.view ≡ Some entry

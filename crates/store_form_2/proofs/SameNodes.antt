@@ -51,7 +51,7 @@ nodes_decide a b =
       λ e. all.1 (ap (λ (n : Node). n.name) e, (ap (λ (n : Node). n.command) e, (ap (λ (n : Node). n.text) e, ap (λ (n : Node). n.deps) e))),
     )
 
--- a test that decides whether two things are the same finds what is there
+-- a test that decides equality passes for an item of a list exactly if the list contains the value
 pub any_decides : {X : Type 0} {test : X → X → Bool} → ((a b : X) → Decides (test a b) (a ≡ b)) → (xs : List X) (x : X) → Decides (list_any (test x) xs) (Contains xs x)
 any_decides {test = test} each xs x = (λ e. Contains-from_any (λ a b. (each a b).0) x xs e, λ has. list_any-from_Contains (decided test each) x xs has)
 

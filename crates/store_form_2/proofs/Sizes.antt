@@ -20,7 +20,8 @@ use Rattle.store_form_2.proofs.LatestViews.{All-latest_view, All-latest_views}
 use Rattle.store_form_2.proofs.Requests.{StandsFor, stands_for}
 use Rattle.store_form_2.proofs.BuiltBelow.{IsBuiltIn, is_built_in}
 
--- The name, the command, the text and the artefact of a record fit, and so do the few files below it, which have other names.
+-- The name, the command, the text and the artefact of a record are within their limits. It has fewer files below it than the limit.
+-- Each of these is a built file, and their names differ from each other and from the record's.
 pub record HasSizes (kept : Record) : Type 0 where
   pub name : FitsName kept.asked.name
   pub command : FitsCommand kept.asked.command

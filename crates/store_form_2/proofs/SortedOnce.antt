@@ -11,7 +11,7 @@ module _ {X : Type 0} (R : X → X → Type 0) (one_way : (a b : X) → R a b �
   same_first x y xs ys after_x after_y (inr has_x) (inl is) = is
   same_first x y xs ys after_x after_y (inr has_x) (inr has_y) = absurd (one_way x y (All-contains (R x) xs y after_x has_y) (All-contains (R y) ys x after_y has_x))
 
-  -- what comes after the first is no first again
+  -- in a strict order, an item after the first isn't the first, so it is among the later items of the other list
   rest_has : (x y z : X) (xs ys : List X) → x ≡ y → All (R x) xs → Contains xs z → (y ≡ z) ⊎ Contains ys z → Contains ys z
   rest_has x y z xs ys same after has (inl is) =
       let own : R x x = subst (R x) (sym (same ∙ is)) (All-contains (R x) xs z after has) in

@@ -32,7 +32,7 @@ module _ (deps : List ℕ) (rising : IsStrictlyIncreasing deps) (last : ℕ) (be
       let r = rest_of rank (length deps) within in
       (rank, within, get_or_default deps rank rank 0 within ∙ at_rank r.0 rank r.1 all)
 
--- the last file depends on all others where it has so many dependencies
+-- the last file depends on all others if it has as many dependencies as there are other files
 pub is_whole : (entries : List Entry) (last : ℕ) (entry : Entry) → last + 1 ≡ length entries → entry ≡ get_or entries last entry → StandBelow entries (length entries) → length entry.deps ≡ last → IsView entries
 is_whole entries last entry e is stand all =
     let lt : last < length entries = omega (arith, e) in

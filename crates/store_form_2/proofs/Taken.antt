@@ -1,4 +1,4 @@
--- What is there after a draft was taken up.
+-- The contents after a draft is taken up.
 use Rattle.std.proofs.Common.{◌≡◌, ℕ, ◌<◌, Bool, true≢false, List, [], ◌∷◌, ◌++◌, length, map, Some, sym, ap, subst, ◌∙◌}
 use Rattle.std.specs.Prelude.{All, Contains, slice_get}
 use Rattle.std.specs.Bool.{one_answer}

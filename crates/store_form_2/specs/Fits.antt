@@ -29,7 +29,7 @@ deps_at nodes number = (slice_index_or nodes number blank_node).deps
 abbrev pub length_at : List Node → List ℕ → ℕ → ℕ
 length_at nodes lengths number = slice_index lengths (slice_index_or nodes number blank_node).text
 
--- each dependency lists its own as they are listed here
+-- the dependencies of each dependency are in the list before it, in the same order
 abbrev pub AreListed : List Node → List ℕ → Type 0
 AreListed nodes deps = (k : ℕ) → k < length deps → IsListed deps k (deps_at nodes (slice_index deps k))
 
@@ -64,7 +64,7 @@ pub record AreDone (nodes : List Node) (deps : List ℕ) (covered : List ℕ) (l
   pub listed : (k : ℕ) → left ≤ k → k < length deps → IsListed deps k (deps_at nodes (slice_index deps k))
   pub covers : All (λ number. (k : ℕ) × (left ≤ k) × (k < length deps) × Contains (deps_at nodes (slice_index deps k)) number) covered
 
--- What is tested of a new row, with a text of so many bytes.
+-- The conditions on a new row whose text has the given length.
 pub record FitsRow (lengths : List ℕ) (table : NodesByNumber) (row : Row) (own : ℕ) : Type 0 where
   pub few : length row.deps < FILE_LIMIT
   pub sizes : FitsName (node_in table row).name × (FitsCommand (node_in table row).command × (own ≤ TEXT_LIMIT))

@@ -11,7 +11,7 @@ pub record IsListed (deps : List ℕ) (k : ℕ) (inner : List ℕ) : Type 0 wher
   pub rising : IsStrictlyIncreasing (map (rank_in deps) inner)
   pub before : All (λ rank. rank < k) (map (rank_in deps) inner)
 
--- a new file behind those that it depends on
+-- the conditions on a new file over the files that it depends on
 pub record FitsNew (files : List Entry) (entry other : Entry) : Type 0 where
   pub few : length entry.deps < FILE_LIMIT
   pub names : (i j : ℕ) → i < j → j < length entry.deps → (slice_index_or files (slice_index entry.deps i) other).name ≢ (slice_index_or files (slice_index entry.deps j) other).name

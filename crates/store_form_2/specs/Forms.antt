@@ -7,7 +7,7 @@ use Rattle.base_bytes.specs.Names.{name_at}
 use Rattle.base_bytes.specs.Ranges.{byte_at, read_whole}
 use Rattle.base_bytes.specs.TextRefs.{TextRef, text_ref_at}
 
--- a new node as it is spelled
+-- a new node in a payload: its name, its command, its text, by number or in full, and the numbers of its dependencies
 pub record Draft : Type 0 where
   pub name : FileName
   pub command : List (List ℕ)

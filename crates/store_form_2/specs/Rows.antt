@@ -15,7 +15,7 @@ use Rattle.store_form_2.specs.declared.rows.Row.{Row}
 abbrev pub is_same_row : Row → Row → Bool
 is_same_row a b = a.name == b.name && (a.command == b.command && (a.text == b.text && pointwise nat_eq a.deps b.deps))
 
--- the last of some numbers; 0 where there are none
+-- the last number of a list, or 0 if the list is empty
 abbrev pub last_of : List ℕ → ℕ
 last_of numbers = slice_index numbers (length numbers - 1)
 

@@ -1,4 +1,4 @@
--- Records of the views of two files, of which the second depends on the first.
+-- Records of the views of two files; the second file depends on the first.
 use Rattle.std.specs.Prelude.{ℕ, ◌∷◌, List, [], codes}
 use Rattle.base.specs.declared.file.FileName.{FileName}
 use Rattle.base.specs.declared.graph.BuiltFile.{BuiltFile}

@@ -1,4 +1,4 @@
--- What is there after a payload was taken up.
+-- The contents after a payload is taken up.
 use Rattle.std.specs.Prelude.{◌≡◌, ℕ, ◌++◌, ◌∷◌, [], Bool, List, length, map, if◌then◌else◌}
 use Rattle.store_form_2.specs.declared.kept_view.Record.{Record}
 use Rattle.store_form_2.specs.Forms.{Draft}

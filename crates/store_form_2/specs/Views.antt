@@ -33,7 +33,7 @@ unfoldable pub is_graph : List Entry → Bool
 is_graph files =
     nat_le (length files) FILE_LIMIT && (all_pairs (λ entry other. not (is_same_name entry.name other.name)) files && (list_all (λ located. stands files located.0 located.1) (enumerate_from 0 files) && nat_le (sum_by (λ entry. length entry.text) files) GRAPH_TEXT_LIMIT))
 
--- at least one file, of which the last depends on all others
+-- at least one file, and the last file depends on all others
 unfoldable pub is_whole : List Entry → Bool
 is_whole files = nat_lt 0 (length files) && holds_all (found_deps files (length files - 1)) (range_with_len 0 (length files - 1))
 
