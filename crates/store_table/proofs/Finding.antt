@@ -18,7 +18,7 @@ use Rattle.base_bytes.specs.TextRefs.{TextRef, is_text_ref, told_text, with_text
 use Rattle.base_bytes.specs.TextRefs.TextRef.{ByNumber, InFull}
 use Rattle.store_table.specs.Checked.{IsRefNumber, ref_number}
 
--- a test that decides whether two things are the same finds what is there
+-- a test that decides equality passes for an item of a list exactly if the list contains the value
 pub any_decides : {X : Type 0} {test : X → X → Bool} → ((a b : X) → Decides (test a b) (a ≡ b)) → (xs : List X) (x : X) → Decides (list_any (test x) xs) (Contains xs x)
 any_decides {test = test} each xs x = (λ e. Contains-from_any (λ a b. (each a b).0) x xs e, λ has. list_any-from_Contains (decided test each) x xs has)
 
@@ -39,11 +39,11 @@ module _ (texts : List (List ℕ)) (splits : List Split) (are : AreSplit texts s
       let t : texts ≡ [] = nil_from_length texts (sym are.as_many ∙ none) in
       rw (s, t) (first_split text split)
 
--- no text is there twice
+-- no text occurs twice
 pub texts_once : (texts : List (List ℕ)) (splits : List Split) → AreSplit texts splits → (i j : ℕ) → i < length texts → j < length texts → get_or texts i [] ≡ get_or texts j [] → i ≡ j
 texts_once texts splits are i j a b e = sym (are.each i [] a) ∙ ap (reached splits) e ∙ are.each j [] b
 
--- nor is an item of a list without repeats
+-- nor does an item of a list without repeats
 pub once_at : {X : Type 0} (xs : List X) (d : X) → AllPairs (λ a b. a ≢ b) xs → (i j : ℕ) → i < length xs → j < length xs → get_or xs i d ≡ get_or xs j d → i ≡ j
 once_at xs d once i j a b e = elim (cases_lt i j) [
   | inl low ↦ absurd (once i j d low b e)
@@ -80,7 +80,7 @@ pub ref_told : (texts : List (List ℕ)) (source : TextRef) → get_or (with_tex
 ref_told texts (ByNumber number) = refl
 ref_told texts (InFull text) = get_or_at texts text [] [] (length texts) refl
 
--- a text whose number is one of those that are there is there
+-- a text reference whose number is below the number of texts stands for the text with that number
 pub ref_old : (texts : List (List ℕ)) (source : TextRef) → ref_number texts source < length texts → told_text texts source ≡ get_or texts (ref_number texts source) []
 ref_old texts (ByNumber number) low = refl
 ref_old texts (InFull text) low = absurd (omega (arith, low))

@@ -41,7 +41,7 @@ module _ (table : RecordTable) (text : List ℕ) (draft : RequestDraft) where
       let artefact : List ℕ = told_text (table.texts ++ text ∷ []) draft.artefact in
       ap (λ (t : List ℕ). record { texts = with_text (table.texts ++ text ∷ []) draft.artefact; products = with_built table.products (record { name = draft.name; artefact = told_text (table.texts ++ text ∷ []) draft.artefact }); records = table.records ++ record { asked = record { command = draft.command; name = draft.name; text = t; below = _ }; artefact = told_text (table.texts ++ text ∷ []) draft.artefact } ∷ [] }) told
 
--- the numbers are those that they were
+-- the numbers of the texts of a draft stay the same once its new source text is in the table
 pub numbers_over : (texts : List (List ℕ)) (text : List ℕ) (draft : RequestDraft) (numbers : TextNumbers) → AreTextNumbers texts (with_source (InFull text) draft) numbers → AreTextNumbers (texts ++ text ∷ []) (with_source (ByNumber (length texts)) draft) numbers
 numbers_over texts text draft numbers are = record { text = are.text; artefact = are.artefact }
 

@@ -1,4 +1,4 @@
--- A product is among those that are there exactly where its row is.
+-- A list of products contains a product exactly if the list of rows contains its row.
 use Rattle.std.proofs.Common.{◌≡◌, ◌≢◌, ℕ, ◌<◌, Bool, true, false, List, [], ◌∷◌, ◌++◌, length, get_or, Some, length-append, refl, sym, ap, subst, ◌∙◌, arith}
 use Rattle.std.specs.Prelude.{All, AllPairs, Contains, slice_get}
 use Rattle.std.specs.Bool.{one_answer}

@@ -18,7 +18,7 @@ abbrev pub ref_number : List (List ℕ) → TextRef → ℕ
 ref_number texts (ByNumber number) = number
 ref_number texts (InFull text) = length texts
 
--- the number of a text, where it is there or new as it says
+-- the number of the text of a reference, or `None` if no text has the number or the text in full isn't new
 abbrev pub IsRefNumber : List (List ℕ) → TextRef → Option ℕ → Type 0
 IsRefNumber texts source None = ¬ (is_text_ref texts source ≡ true)
 IsRefNumber texts source (Some number) = (is_text_ref texts source ≡ true) × (number ≡ ref_number texts source)
@@ -40,12 +40,12 @@ abbrev pub AreRequestTexts : List (List ℕ) → RequestDraft → Option TextNum
 AreRequestTexts texts draft None = ¬ HasRequestTexts texts draft
 AreRequestTexts texts draft (Some numbers) = HasRequestTexts texts draft × AreTextNumbers texts draft numbers
 
--- a draft of a record with the numbers of its texts, or that it is none
+-- the numbers of the texts of a draft, or `None` if the draft isn't a record
 abbrev pub IsCheckedRequest : RecordTable → RequestDraft → Option TextNumbers → Type 0
 IsCheckedRequest table draft None = ¬ IsRequest table draft
 IsCheckedRequest table draft (Some numbers) = IsRequest table draft × AreTextNumbers table.texts draft numbers
 
--- a draft of a new product with the number of its artefact, or that it is none
+-- the number of the artefact of a draft, or `None` if the draft isn't a new product
 abbrev pub IsCheckedProduct : RecordTable → ProductDraft → Option ℕ → Type 0
 IsCheckedProduct table draft None = ¬ IsNewProduct table draft
 IsCheckedProduct table draft (Some number) = IsNewProduct table draft × (number ≡ ref_number table.texts draft.artefact)
@@ -54,7 +54,7 @@ IsCheckedProduct table draft (Some number) = IsNewProduct table draft × (number
 abbrev pub dep_names : List ProductRow → List ℕ → List ℕ
 dep_names products deps = map (λ dep. (slice_index_or products dep no_row).name) deps
 
--- So few products are there, and no two of them, nor the file of a name, have one name.
+-- A record depends on fewer products than the limit, and all of them exist. They and the file of the record have distinct names.
 pub record HasRowDeps (products : List ProductRow) (name : ℕ) (deps : List ℕ) : Type 0 where
   pub few : length deps < FILE_LIMIT
   pub there : All (λ dep. dep < length products) deps
@@ -71,7 +71,7 @@ pub record PutsProduct (row : ProductRow) (number : ℕ) (old new : List Product
   pub numbered : slice_get new number ≡ Some row
   pub new_is : new ≡ (if list_any (is_same_product_row row) old then old else old ++ row ∷ [])
 
--- A payload was taken up: what is placed stands for what was there before and the payload.
+-- A payload was taken up: the located table stands for the old table after that payload.
 pub record Took (payloads : List (List ℕ)) (old : RecordTable) (new : LocatedTable) (payload : RequestPayload) : Type 0 where
   pub are : IsTableLocated payloads new
   pub is : located_table payloads new ≡ with_request_payload old payload

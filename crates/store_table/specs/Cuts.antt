@@ -18,7 +18,7 @@ pub record IsWithout (bytes : List ℕ) (range : ByteRange) (rest : List ℕ) : 
   pub within : range_end range ≤ length bytes
   pub is : rest ≡ take range.start bytes ++ drop (range_end range) bytes
 
--- The parts of a record that aren't words nor its text are the same in what is left of its payload.
+-- The name, the dependencies and the artefact of a record are the same in its payload and in the bytes that remain after a cut.
 pub record AreSameParts (bytes : List ℕ) (draft : RequestRanges) (rest : List ℕ) (new : RequestRanges) : Type 0 where
   pub library : ranged rest new.library ≡ ranged bytes draft.library
   pub path : ranged rest new.path ≡ ranged bytes draft.path
@@ -29,8 +29,8 @@ pub record AreSameParts (bytes : List ℕ) (draft : RequestRanges) (rest : List 
 abbrev pub with_source : TextRef → RequestDraft → RequestDraft
 with_source source draft = record { name = draft.name; command = draft.command; source = source; deps = draft.deps; artefact = draft.artefact }
 
--- A payload of a record without the text that it has in a range: what is left with that text is the payload, and its parts are
--- those of the record, whose text has a number.
+-- The payload of a record from which the text in a range was cut. With that text put back, it is the whole payload. Its parts are
+-- the parts of the record, except that the source text is given by its number. A file holds the text.
 pub record IsCutOf (bytes : List ℕ) (draft : RequestRanges) (range : ByteRange) (number : ℕ) (file : ℕ) (cut : CutRequest) : Type 0 where
   pub whole : bytes ≡ with_cut (ranged bytes range) cut.payload
   pub parts : request_in_ranges cut.payload.rest cut.draft ≡ with_source (ByNumber number) (request_in_ranges bytes draft)

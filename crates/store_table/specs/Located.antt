@@ -17,8 +17,8 @@ use Rattle.store_table.specs.declared.texts.LocatedTexts.{LocatedTexts}
 use Rattle.store_table.specs.declared.table.RecordRow.{RecordRow}
 use Rattle.store_table.specs.declared.table.LocatedTable.{LocatedTable}
 
--- The segments of bytes that are held or borrowed; the payloads that they make up, in order; the texts of files that are borrowed, which
--- are the first segments; and for how many more payloads there is room.
+-- Segments of bytes, held or borrowed, and the payloads that they form, in order. The first segments are the borrowed texts of
+-- files. `room` is the number of payloads that can still be added.
 pub record HeldList : Type 0 where
   pub segments : List (List ℕ)
   pub payloads : List (List ℕ)
@@ -49,8 +49,8 @@ file_texts files = map (λ file. file.text) files
 abbrev pub held_segments : List Entry → List (List ℕ) → List HeldPayload → List (List ℕ)
 held_segments files opened more = file_texts files ++ (opened ++ map held_segment more)
 
--- the payloads in order: first those that a store was opened with, then those that came later; where the text of a file was cut
--- from one, it is put back
+-- The payloads in order: first the ones that a store was opened with, then the later ones. If the text of a file was cut from a
+-- later payload, it is put back.
 abbrev pub held_payloads : List Entry → List (List ℕ) → List HeldPayload → List (List ℕ)
 held_payloads files opened more = opened ++ map (held_payload (file_texts files)) more
 
