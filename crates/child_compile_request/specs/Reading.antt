@@ -20,7 +20,7 @@ tested_at test read bytes = do
 abbrev pub fitting_name_at : List ℕ → Option (FileName × List ℕ)
 fitting_name_at bytes = tested_at has_name_sizes name_at bytes
 
--- a text of at most so many bytes
+-- a text of at most `limit` bytes, and the bytes after it
 abbrev pub short_text_at : ℕ → List ℕ → Option (List ℕ × List ℕ)
 short_text_at limit bytes = tested_at (λ text. nat_le (length text) limit) text_at bytes
 
