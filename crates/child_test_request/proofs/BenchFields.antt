@@ -34,7 +34,7 @@ after_cases job = text_bytes job.runner_cfg ++ (text_bytes job.results ++ all_bu
 abbrev after_magic_bytes : BenchJob → List ℕ
 after_magic_bytes job = text_bytes job.library ++ (text_bytes job.bench ++ (text_bytes job.architecture ++ (texts_bytes job.cases ++ after_cases job)))
 
--- what is read after so many parts
+-- the job with the fields that were read, and with the built files that the rest of the bytes spell
 abbrev with_built_files : (library bench architecture : List ℕ) (cases : List (List ℕ)) (runner_cfg results : List ℕ) → List ℕ → Option BenchJob
 with_built_files library bench architecture cases runner_cfg results bytes =
     all_built_at bytes >>= λ built. cond (eqb (length built.1) 0) (Some (record { library = library; bench = bench; architecture = architecture; cases = cases; runner_cfg = runner_cfg; results = results; built = built.0 })) None

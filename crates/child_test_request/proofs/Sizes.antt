@@ -153,7 +153,7 @@ results_short run fits = omega (arith, results_length run, fits.library, fits.be
 pub cases_short : (run : TestRun) → FitsRun run → All (λ name. length name < 2 ^ 32) run.cases
 cases_short run fits = short_cases run.cases (omega (arith, fits.cases))
 
--- what is asked for a run is a job
+-- the bench job of a run within its limits is within the limits of a job
 pub run_is_job : (run : TestRun) (built : List BuiltFile) → FitsRun run → IsBuilt built → IsBenchJob (bench_job run built)
 run_is_job run built fits is = record {
   library = omega (arith, fits.library);
