@@ -7,6 +7,6 @@ use Rattle.base.specs.declared.child.MaybeText.TheVariants.{Nothing}
 abbrev pub ends_with : ℕ → List ℕ → Exit
 ends_with code output = record { code = code; output = output; results = Nothing }
 
--- the answer to an input that is no request
+-- the answer to an input that isn't a request
 unfoldable pub bad_request : Exit
 bad_request = ends_with 2 (codes "bad request" ++ 10 ∷ [])
