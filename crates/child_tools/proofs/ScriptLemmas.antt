@@ -19,15 +19,15 @@ module _ (text : List ℕ) (comments : List Span) (i : ℕ) (within : i < length
       sym so_far ∙ (ap (refusals text) (drop_more comments i (record { start = 0; end = 0 }) within)
       ∙ ap (λ (y : Option (List ℕ)). cons_option y (refusals text (drop (i + 1) comments))) told)
 
-  -- this one is no refusal
+  -- a comment without a refusal leaves the list of refusals unchanged
   pub refused_later : refusal_at text (comment_at comments i) ≡ None → refusals text (drop (i + 1) comments) ≡ refusals text comments
   refused_later none = sym (next None none)
 
-  -- it is the first
+  -- a comment with a refusal has the first one
   pub refused_here : (line : List ℕ) → refusal_at text (comment_at comments i) ≡ Some line → first_refusal text comments ≡ Some line
   refused_here line some = ap (λ (lines : List (List ℕ)). slice_get lines 0) (next (Some line) some)
 
--- there is none
+-- past the last comment, no refusal is found
 pub refused_never : (text : List ℕ) (comments : List Span) (i : ℕ) → length comments ≤ i → refusals text (drop i comments) ≡ refusals text comments → first_refusal text comments ≡ None
 refused_never text comments i long so_far = ap (λ (lines : List (List ℕ)). slice_get lines 0) (sym so_far ∙ ap (refusals text) (drop_all i comments long))
 

@@ -27,7 +27,7 @@ not_vhdl name = refused (name.path ++ codes ": not VHDL")
 unfoldable pub no_unit : FileName → UnitKey → Exit
 no_unit name unit = refused (name.path ++ (codes ": no unit " ++ (unit.library ++ (codes "." ++ unit.name))))
 
--- the artefact, where it isn't too long
+-- the answer with the artefact, or a refusal if the artefact is too long
 unfoldable pub made : List ℕ → Exit
 made artefact = if nat_le (length artefact) ARTEFACT_LIMIT then ends_with 0 artefact else refused (codes "artefact too long")
 

@@ -64,11 +64,11 @@ unfoldable pub cases_from : BenchJob → List ℕ → List (List ℕ) → Exit
 cases_from job results [] = all_done results
 cases_from job results (name ∷ names) = if fails job.built (full_name job name) then failed_case (full_name job name) (results ++ start_line name) else cases_from job (results ++ start_line name) names
 
--- a bench that names no case itself has the one case `all`, and starts none
+-- the answer for a bench without named cases: its one case is `all`, and no start line is written
 unfoldable pub whole_bench : BenchJob → Exit
 whole_bench job = if fails job.built (full_name job (codes "all")) then failed_case (full_name job (codes "all")) [] else all_done []
 
--- the answer to a job whose bench is there, for these cases; a bench that names no case itself has none here
+-- the answer to a job whose bench exists, for these cases; the list is empty for a bench without named cases
 abbrev pub cases_of : BenchJob → List (List ℕ) → Exit
 cases_of job [] = whole_bench job
 cases_of job (name ∷ names) = cases_from job [] (name ∷ names)

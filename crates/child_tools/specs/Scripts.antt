@@ -14,6 +14,6 @@ script_at text span = after_word (codes "-- child: ") (slice_range text span.sta
 abbrev pub refusal_at : List ℕ → Span → Option (List ℕ)
 refusal_at text span = option_and_then (after_word (codes "refuse ")) (script_at text span)
 
--- what the first script line of a text says after `refuse `, of those that begin so
+-- the text after `refuse ` in the first script line that begins with it
 abbrev pub first_refusal : List ℕ → List Span → Option (List ℕ)
 first_refusal text comments = slice_get (filter_map (refusal_at text) comments) 0

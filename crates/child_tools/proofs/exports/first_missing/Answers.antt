@@ -1,4 +1,4 @@
--- What is known of the files is known of one more.
+-- With the libraries and units of one more file added, the first missing unit is found for all files.
 use Rattle.std.proofs.Common.{◌++◌, ◌∷◌, []}
 use Rattle.child_tools.proofs.exports.first_missing.Goals as goal
 

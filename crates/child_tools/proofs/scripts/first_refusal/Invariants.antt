@@ -1,4 +1,4 @@
--- Those that are left have the same first one.
+-- The comments from the index on have the same refusals as all comments.
 use Rattle.std.proofs.Common.{◌≡◌, drop}
 use Rattle.child_tools.proofs.ScriptLemmas.{refusals}
 use Rattle.child_tools.proofs.scripts.first_refusal.Given as goal

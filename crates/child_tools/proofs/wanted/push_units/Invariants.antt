@@ -1,4 +1,4 @@
--- Those that the references up to the index name are added.
+-- The units named by the references before the index are added.
 use Rattle.std.proofs.Common.{◌≡◌, ◌++◌, take}
 use Rattle.child_tools.specs.Exports.{strict_units}
 use Rattle.child_tools.proofs.wanted.push_units.Given as goal
