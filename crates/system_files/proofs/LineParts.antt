@@ -73,7 +73,7 @@ module _ (seen front back : List ℕ) (count limit : ℕ) (unended : position_or
       cond-false _ End (if nat_le (length (first_line whole)) limit then Got (first_line whole) else TooLong) (ne_eqb _ _ some)
       ∙ ap (λ (l : List ℕ). if nat_le (length l) limit then Got l else TooLong) line_at
 
--- what is taken where the line ends, and what is left then
+-- the line that is taken once its end is found, and the bytes that then remain
 pub taken_at : (start before known : Option (List ℕ)) (seen front : List ℕ) (count limit : ℕ) (end : LineEnd)
     → Consumes start before seen → Keeps before (prepend_known front known)
     → position_or_len is_line_feed seen ≡ length seen → count ≡ position_or_len is_line_feed front → count < length front

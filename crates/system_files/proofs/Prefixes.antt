@@ -1,4 +1,4 @@
--- What was kept of a reader's bytes once a read went past the limit.
+-- The kept prefix of a reader's bytes after a read that passes the limit.
 use Rattle.std.specs.Prelude.{◌≡◌, ℕ, ◌+◌, ◌<◌, ◌≤◌, true, List, ◌++◌, length, take, drop, Option, Some, None}
 use Rattle.std.specs.Io.KnownBytes.{Consumes}
 use Rattle.std.proofs.Common.{arith, sym, ap, ◌∙◌}
@@ -26,7 +26,7 @@ pub longer-than_prefix : (kept read rest : List ℕ) (room count : ℕ) → room
 longer-than_prefix kept read rest room count shorter within =
     omega (arith, length-append kept (take count read ++ rest), length-append (take count read) rest, length-take-le count read within)
 
--- what is kept where a read passes the limit
+-- if a read passes the limit, the kept bytes are the first ones up to the limit, and there is more
 pub IsPrefix-cut : (old before after : Option (List ℕ)) (kept read new : List ℕ) (limit room count : ℕ)
     → Consumes old before kept → Consumes before after (take count read)
     → length kept + room ≡ limit → room < count → count ≤ length read → new ≡ kept ++ take room read

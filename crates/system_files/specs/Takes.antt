@@ -1,4 +1,4 @@
--- What is taken of a reader's bytes, where these are known.
+-- The bytes taken from a reader, if its remaining bytes are known.
 use Rattle.std.specs.Prelude.{◌≡◌, ℕ, Bool, List, length, ◌++◌, Option, Some, None}
 use Rattle.std.specs.List.{position_or_len}
 use Rattle.std.specs.Io.KnownBytes.{Consumes}
@@ -8,7 +8,7 @@ use Rattle.outside.specs.declared.streams.TakeEnd.TheVariants.{Got, TooLong}
 use Rattle.outside.specs.declared.streams.LineEnd.{LineEnd}
 use Rattle.system_files.specs.Prefixes.{IsPrefix}
 
--- all that was left was taken, up to a limit
+-- the result of taking all remaining bytes, up to a limit
 abbrev pub IsTakenOf : ℕ → Option (List ℕ) → TakeEnd → Type 0
 IsTakenOf limit None end = Unit {0}
 IsTakenOf limit (Some bytes) end = end ≡ take_end bytes limit
@@ -18,12 +18,12 @@ abbrev pub behind_front : List ℕ → TakeEnd → TakeEnd
 behind_front front (Got bytes) = Got (front ++ bytes)
 behind_front front TooLong = TooLong
 
--- the first line of what was left was taken, up to a limit
+-- the result of taking the first line of the remaining bytes, up to a limit
 abbrev pub IsLineOf : ℕ → Option (List ℕ) → LineEnd → Type 0
 IsLineOf limit None end = Unit {0}
 IsLineOf limit (Some bytes) end = end ≡ line_end bytes limit
 
--- what follows the first line of what was left is left
+-- the bytes after the first line of the old remaining bytes still remain
 abbrev pub IsAfterLine : Option (List ℕ) → Option (List ℕ) → Type 0
 IsAfterLine None new = Unit {0}
 IsAfterLine (Some bytes) None = ⊥
