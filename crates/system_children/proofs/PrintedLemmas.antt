@@ -1,4 +1,4 @@
--- What is kept of a text that grows at its end.
+-- The kept prefix of a text that grows at its end.
 use Rattle.std.specs.Prelude.{◌≡◌, ℕ, zero, suc, ◌+◌, ◌-◌, ◌<◌, ◌≤◌, Bool, true, false, nat_lt, List, [], ◌∷◌, ◌++◌, length, take, refl, Some}
 use Rattle.std.proofs.Common.{arith, sym, ap, ◌∙◌}
 use Rattle.std.proofs.lemmas.List.{length-append, length-take, take_all}
@@ -14,7 +14,7 @@ take-both (suc n) [] ys =
 take-both (suc n) (x ∷ xs) ys =
     let less : suc n - suc (length xs) ≡ n - length xs = omega arith in rw (less) (ap (λ l. x ∷ l) (take-both n xs ys))
 
--- what is kept leaves room for as much as the whole does
+-- the kept prefix leaves as much room below the limit as the whole text
 room-of_kept : (limit : ℕ) (xs : List ℕ) → limit - length (take limit xs) ≡ limit - length xs
 room-of_kept limit xs = omega (arith, length-take limit xs)
 

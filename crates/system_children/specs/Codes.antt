@@ -3,7 +3,7 @@ use Rattle.std.specs.Prelude.{ℕ, ◌==◌, Bool, true, false, ℤ, pos, negsuc
 use Rattle.base.specs.declared.child.MaybeText.{MaybeText}
 use Rattle.base.specs.declared.child.MaybeText.TheVariants.{Nothing, Given}
 
--- a good end denotes none where the output is cut and was all that was asked for
+-- the code of a child; 257 instead of 0 if its output is cut and no path for results was requested
 abbrev pub cut_code : ℕ → Bool → MaybeText → ℕ
 cut_code code true Nothing = if code == 0 then 257 else code
 cut_code code true (Given path) = code

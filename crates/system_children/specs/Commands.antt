@@ -9,7 +9,7 @@ pub record IsProgram (own : Option (List ℕ)) (word program : List ℕ) : Type 
   pub own_one : word ≡ codes "@self" → own ≡ Some program
   pub other : ¬ (word ≡ codes "@self") → program ≡ word
 
--- the command of the words: their first names the program, and the others are its arguments, each as it is
+-- the command of the words: the first word names the program, and the others are its arguments, unchanged
 abbrev pub IsCommandOf : Option (List ℕ) → List (List ℕ) → Command Global → Type 0
 IsCommandOf own [] command = ⊥
 IsCommandOf own (word ∷ words) command = IsProgram own word (command_program command) × (command_args command ≡ words)

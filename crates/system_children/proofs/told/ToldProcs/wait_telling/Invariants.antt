@@ -1,7 +1,7 @@
 use Rattle.std.proofs.Common.{◌≡◌}
 use Rattle.system_children.proofs.told.ToldProcs.wait_telling.Given as goal
 
--- the children stay as they are told
+-- the loop leaves the state of the children unchanged
 abbrev pub invariant-loop : goal.invariant-loop
 invariant-loop g l = record {
   running : g.P.Procs.running l.self.procs ≡ g.P.Procs.running l.initial.self.procs;
