@@ -1,4 +1,4 @@
--- What a start and an end keep of a book.
+-- The invariants of a log of children after a start and after an end.
 use Rattle.std.proofs.Common.{ℕ, zero, suc, ◌+◌, ◌≡◌, ◌<◌, ◌≤◌, Bool, true, false, cond, List, [], ◌∷◌, ◌++◌, length, get_or, sym, ap, subst, refl, arith, ◌∙◌, length-append}
 use Rattle.std.specs.Prelude.{Contains, Option, Some, None, slice_get, ◌==◌}
 use Rattle.std.specs.List.{AllByRecursion}
@@ -55,12 +55,12 @@ started_with-end ticket (event.Started other request ∷ rest) end is = ap (λ o
 started_with-end ticket (event.Ended other exit ∷ rest) end is = started_with-end ticket rest end is
 started_with-end ticket (event.Gone other ∷ rest) end is = started_with-end ticket rest end is
 
--- what a ticket was started with, or what the start of it had
+-- the first request, or the second if the first is missing
 abbrev first_of_two : Option Request → Option Request → Option Request
 first_of_two (Some request) other = Some request
 first_of_two None other = other
 
--- a start at the end counts for a ticket that had none
+-- a start at the end of a journal counts for its ticket unless an earlier start does
 started_with-start : (ticket other : ℕ) (request : Request) (journal : List Event) → started_with ticket (journal ++ event.Started other request ∷ []) ≡ first_of_two (started_with ticket journal) (cond (other == ticket) (Some request) None)
 started_with-start ticket other request [] = refl
 started_with-start ticket other request (event.Started first begun ∷ rest) =
@@ -124,7 +124,7 @@ placed_start : (journal : List Event) (request : Request) → Placed journal →
 placed_start journal request placed ticket asked started =
     start_at journal request placed ticket asked (started_with ticket journal) refl (length journal == ticket) refl (sym (started_with-start ticket (length journal) request journal) ∙ started)
 
--- a book after a start
+-- a log after a start
 pub child_log_started : (running : List ℕ) (old new : Roomy Event) (request : Request) → IsChildLog running old → length old.items + length running + 2 ≤ new.room → new.items ≡ old.items ++ event.Started (length old.items) request ∷ [] → IsChildLog (running ++ length old.items ∷ []) new
 child_log_started running old new request child_log room items =
     record {
@@ -133,7 +133,7 @@ child_log_started running old new request child_log room items =
       room = simp length-append (rw items (omega (arith, length-append {A = ℕ}, length-append {A = Event})));
     }
 
--- a book after an end
+-- a log after an end
 pub child_log_ended : (running : List ℕ) (old new : Roomy Event) (ticket : ℕ) (end : Event) → IsEnd end → Contains running ticket → IsChildLog running old → old.room ≤ new.room → new.items ≡ old.items ++ end ∷ [] → IsChildLog (without ticket running) new
 child_log_ended running old new ticket end is there child_log room items =
     let shorter : length (without ticket running) + 1 ≡ length running = length-without ticket running there.0 there.1 there.2 in

@@ -46,7 +46,7 @@ pub each_name : (files : List NamedText) → HavePaths files → AllByRecursion 
 each_name files paths =
     recursion_from_All IsName (listed_of files) (All-weaker (Contains (listed_of files)) IsName (name_of files paths) (listed_of files) (All-contains_itself (listed_of files)))
 
--- the answers to a question for so many names
+-- the answer to a request for at most `limit` names: all names, or `TooMany` if there are more
 pub all_names : (paths : List (List ℕ)) (limit : ℕ) → length paths ≤ limit → names.Got paths ≡ names_end paths limit
 all_names paths limit few = rw (le-leb (length paths) limit few) refl
 

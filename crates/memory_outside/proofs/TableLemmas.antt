@@ -26,7 +26,7 @@ no_results (Given path) = tt
 false_is_not : false ≡ true → ⊥
 false_is_not e = both_ways false refl e
 
--- where one path names results, so does the same path
+-- results that answer a request for one path answer a request for the same path
 same_answers : (path other found : MaybeText) → same_maybe path other ≡ true → AnswersPath path found → AnswersPath other found
 same_answers Nothing Nothing found same answers = answers
 same_answers Nothing (Given other) found same answers = tt

@@ -1,4 +1,4 @@
--- A book of children: those that run, what has happened, and which one ends next.
+-- A log of children: the running children, the events so far, and which child ends next.
 use Rattle.std.specs.Prelude.{◌≡◌, ℕ, ◌+◌, ◌%◌, ◌<◌, ◌≤◌, nat_lt, List, [], ◌∷◌, ◌++◌, length, slice_get, slice_index, Some, if◌then◌else◌}
 use Rattle.std.specs.List.{AllByRecursion}
 use Rattle.memory_outside.specs.Rooms.{Roomy}
@@ -10,7 +10,7 @@ use Rattle.outside.specs.Counts.{Counted}
 use Rattle.memory_outside.specs.declared.failing.Calls.{Calls}
 use Rattle.memory_outside.specs.Failing.{next_call, no_calls, MakesCall}
 
--- a book: the running tickets in order of start, the journal, the picks and the number of waits so far, its calls,
+-- a log: the running tickets in order of start, the journal, the picks and the number of waits so far, its calls,
 -- whose faults are failed starts, and how many children were lost
 pub record HeldChildLog : Type 0 where
   pub running : List ℕ
@@ -20,12 +20,12 @@ pub record HeldChildLog : Type 0 where
   pub calls : Calls
   pub lost_children : ℕ
 
--- a book of no children
+-- a log without children
 abbrev pub no_children : (picks failing : List ℕ) → HeldChildLog
 no_children picks failing = record { running = []; journal = []; picks = picks; waits = 0; calls = no_calls failing; lost_children = 0 }
 
--- The index of the ticket that a wait takes among so many running ones: the pick of the wait's number, modulo how
--- many run; past the end of the picks the oldest.
+-- The index of the ticket that a wait takes among the running ones: the pick with the number of the wait, modulo the number of
+-- running children. Past the end of the picks it is 0, the oldest.
 abbrev pub pick : List ℕ → (wait running : ℕ) → ℕ
 pick picks wait running = if nat_lt wait (length picks) then slice_index picks wait % running else 0
 
@@ -37,13 +37,13 @@ picked child_log = slice_index child_log.running (pick child_log.picks child_log
 abbrev pub Placed : List Event → Type 0
 Placed journal = (ticket : ℕ) (request : Request) → started_with ticket journal ≡ Some request → slice_get journal ticket ≡ Some (event.Started ticket request)
 
--- what holds of each book: a running ticket is an index of the journal, and there is room for all ends
+-- the invariant of each log: a running ticket is an index of the journal, and there is room for all ends
 pub record IsChildLog (running : List ℕ) (journal : Roomy Event) : Type 0 where
   pub placed : Placed journal.items
   pub begun : AllByRecursion (λ ticket. ticket < length journal.items) running
   pub room : length journal.items + length running ≤ journal.room
 
--- an event that is no start
+-- an event other than a start
 abbrev pub IsEnd : Event → Type 0
 IsEnd (event.Started ticket request) = ⊥
 IsEnd (event.Ended ticket exit) = Unit {0}

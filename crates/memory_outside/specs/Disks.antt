@@ -76,7 +76,7 @@ pub record Log : Type 0 where
   pub first : Image
   pub kept : List LoggedCall
 
--- a side that begins with these bytes: one of 2^63 bytes is none
+-- a side that begins with these bytes; an empty one if there are 2^63 bytes or more
 abbrev pub beginning : List ℕ → SideState
 beginning bytes = if nat_lt (length bytes) (2 ^ 63) then settled bytes else settled []
 

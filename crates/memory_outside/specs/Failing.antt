@@ -19,7 +19,7 @@ use Rattle.memory_outside.specs.declared.failing.Calls.{Calls}
 abbrev pub next_call : ℕ → ℕ
 next_call call = min (call + 1) (2 ^ 64 - 1)
 
--- whether the next call is one of those that are to fail
+-- whether the next call is in the list of calls that fail
 abbrev pub fails_next : Calls → Bool
 fails_next calls = list_any (λ n. n == calls.made) calls.failing
 

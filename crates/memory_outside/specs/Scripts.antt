@@ -10,7 +10,7 @@ use Rattle.outside.specs.Children.{FitsExit, AnswersPath}
 use Rattle.memory_outside.specs.declared.answer.Answer.{Answer}
 use Rattle.memory_outside.specs.ChildLogs.{HeldChildLog}
 
--- a table of answers, and a book
+-- a table of answers, and a log of children
 pub record Script : Type 0 where
   pub answers : List Answer
   pub child_log : HeldChildLog

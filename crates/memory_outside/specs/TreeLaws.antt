@@ -27,7 +27,7 @@ Path = List ℕ
 abbrev cmp : Path → Path → Ordering
 cmp = slice_cmp nat_cmp
 
--- each path comes before the next one, so none is there twice
+-- each path comes before the next one, so no path occurs twice
 abbrev Sorted : List Path → Type 0
 Sorted paths = IsStrictlySortedBy (slice_cmp nat_cmp) paths
 
@@ -96,7 +96,7 @@ same_sorted (x ∷ xs) (y ∷ ys) one other to from =
     (λ p there. tail_in y x xs p (sym first) (above_first y ys p other.0 there) (in_cons x xs p (from p (later_in y ys p there)))) in
     λ i. first i ∷ rest i
 
--- what is less than the first of a sorted list is less than all of it
+-- a path that comes before the first path of a sorted list comes before each later one
 below_all : (k x : Path) (xs : List Path) → cmp k x ≡ Less → AllByRecursion (λ y. cmp x y ≡ Less) xs → AllByRecursion (λ y. cmp k y ≡ Less) xs
 below_all k x [] less all = tt
 below_all k x (y ∷ ys) less all = (nat_list_cmp_total.trans k x y less all.0, below_all k x ys less all.1)
@@ -196,7 +196,7 @@ filter_from p xs x there = (
   All-contains (λ y. p y ≡ true) (filter p xs) x (filter_passes p xs) there,
 )
 
--- no file is none
+-- false isn't true
 none_is_not : false ≡ true → ⊥
 none_is_not e = both_ways false refl e
 

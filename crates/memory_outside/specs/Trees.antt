@@ -1,4 +1,4 @@
--- What a tree over memory holds: files, of which the first of a path counts.
+-- A tree in memory: a list of files. Of several files with the same path, the first one counts.
 use Rattle.std.specs.Prelude.{◌≡◌, ℕ, ◌≤◌, nat_eq, List, [], ◌∷◌, length, map, filter, Option, Some, None, if◌then◌else◌}
 use Rattle.std.specs.List.{AllByRecursion}
 use Rattle.std.specs.Ordering.{nat_cmp}
