@@ -14,7 +14,7 @@ use Rattle.child_tools.specs.Benches.{simulation}
 
 -- ## What a child says
 
--- the second word of a command, or no bytes where it has none
+-- the second word of a command, or no bytes if it has fewer than two words
 abbrev pub second_word : List (List ℕ) → List ℕ
 second_word words = unwrap_or (slice_get words 1) []
 
