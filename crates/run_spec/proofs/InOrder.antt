@@ -54,7 +54,7 @@ unmade_by [] next k low le = refl
 unmade_by (end ∷ ends) next k low le =
     ap (λ b. (b && end.ok) || list_any (λ (e : EndedChild). (e.position == k) && e.ok) ends) (ne_eqb end.position k (λ e. omega (arith, low.0, e))) ∙ unmade_by ends next k low.1 le
 
--- so many were started, in order, and no other runs or has ended
+-- the first runs up to `next` were started, in order, and each running or ended child is of one of them
 pub record IsInOrder (workload : Workload) (schedule : SchedulerState) (next : ℕ) : Type 0 where
   pub taken : schedule.taken ≡ below next
   pub within : next ≤ workload.count

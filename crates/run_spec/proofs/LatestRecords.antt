@@ -17,7 +17,7 @@ module _ (name : FileName) where
       let parts = or_parts (is_of name first) (list_any (is_of name) rest) none in
       ap (λ (r : Option Record). option_or r (cond (is_of name first) (Some first) None)) (latest_none rest parts.1) ∙ cond-false (is_of name first) (Some first) None parts.0
 
-  -- what follows has none of the name
+  -- records of other names that follow don't change the latest record
   pub latest_before_none : (before after : List Record) → list_any (is_of name) after ≡ false → latest name (before ++ after) ≡ latest name before
   unfolding latest
   latest_before_none [] after none = latest_none after none

@@ -1,4 +1,4 @@
--- What is said of a journal holds of each prefix of it, and of each event where it comes.
+-- Properties of a journal that hold of each of its prefixes, and of each event after the events before it.
 use Rattle.std.proofs.Common.{◌≡◌, List, [], ◌∷◌, ◌++◌, sym, ap, subst, ◌∙◌}
 use Rattle.std.proofs.lemmas.Grind.{flat_map-append}
 use Rattle.std.proofs.lemmas.List.{append-nil, append_assoc}
@@ -39,7 +39,7 @@ lawful_prefix s xs ys lawful = record {
 pub answered_prefix : (answer : Request → Exit) (xs ys : List Event) → Answered answer (xs ++ ys) → Answered answer xs
 answered_prefix answer xs ys answered = each_prefix (HoldsAnswer answer) [] xs ys answered
 
--- each start asks for its file what is to be asked after the events before it
+-- each start has the request of its file after the events before it
 pub requested_at : (s : Work) (b : BuildProgress) (xs : List Event) (y : Event) (ys : List Event) → AreRequested s b (xs ++ y ∷ ys) → IsRequested s (after_all s b xs) y
 unfolding AreRequested after_all
 requested_at s b [] y ys h = h.0
@@ -50,7 +50,7 @@ pub lawful_none : (s : Work) → Lawful s []
 unfolding LawfulMoves AreRequested EachAfter moves_after
 lawful_none s = record { moves = tt; requests = tt; tickets = tt }
 
--- what is said of each event holds of one, after those before it
+-- a property of each event holds of one event, after the events before it
 pub each_at : (P : List Event → Event → Type 0) (before xs : List Event) (y : Event) (ys : List Event) → EachAfter P before (xs ++ y ∷ ys) → P (before ++ xs) y
 unfolding EachAfter
 each_at P before [] y ys h = subst (λ (l : List Event). P l y) (sym (append-nil before)) h.0

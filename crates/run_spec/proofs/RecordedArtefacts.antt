@@ -1,4 +1,4 @@
--- What is recorded of a file over files that were built, and the record that it is of.
+-- The artefact recorded for a file over given files below it, and the record that holds the artefact.
 use Rattle.std.proofs.Common.{◌≡◌, ℕ, List, Option, Some, None, refl, sym, ap, ◌∙◌, inl, inr}
 use Rattle.std.specs.Prelude.{slice_get, ◌↔◌}
 use Rattle.std.specs.Option.{option_and_then}
@@ -11,7 +11,7 @@ use Rattle.outside.specs.Records.{Asked, Record, asked_of}
 use Rattle.run_spec.specs.Recorded.{is_same_asked, artefact_for, current_by_request}
 use Rattle.run_spec.proofs.SameAsked.{same_asked}
 
--- a record that an artefact is taken from has what is asked
+-- a record that gives its artefact for these inputs has exactly these inputs
 of_asked : (asked : Asked) (kept : Record) (artefact : List ℕ) → artefact_for asked kept ≡ Some artefact → kept ≡ record { asked = asked; artefact = artefact }
 of_asked asked kept artefact h =
     elim (cases_Bool (is_same_asked kept.asked asked)) [
@@ -21,7 +21,7 @@ of_asked asked kept artefact h =
       | inr f ↦ absurd (none-some artefact (sym (cond-false (is_same_asked kept.asked asked) (Some kept.artefact) None f) ∙ h))
     ]
 
--- and one that has it gives its artefact
+-- and a record with these inputs gives its artefact
 of_record : (asked : Asked) (artefact : List ℕ) → artefact_for asked (record { asked = asked; artefact = artefact }) ≡ Some artefact
 of_record asked artefact = cond-true (is_same_asked asked asked) (Some artefact) None ((same_asked asked asked).1 refl)
 
@@ -37,7 +37,7 @@ module _ (latest_of : FileName → Option Record) (graph : List Entry) (at : ℕ
   unfolding current_by_request
   current_is = ap (option_and_then of_file) is
 
-  -- what is current is the artefact of a latest record with what would be asked, and no other
+  -- the current artefact is that of the latest record, if it has the inputs of the file now, and no other
   pub record_of_current : (artefact : List ℕ) → current_by_request latest_of graph at built ≡ Some artefact → latest_of entry.name ≡ Some (record { asked = asked_of entry built; artefact = artefact })
   record_of_current artefact h = of_latest (asked_of entry built) (latest_of entry.name) artefact (sym current_is ∙ h)
 

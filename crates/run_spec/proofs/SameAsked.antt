@@ -1,4 +1,4 @@
--- The test of what is asked tells whether it is the same.
+-- The test for equal inputs of a compiler decides whether they are equal.
 use Rattle.std.proofs.Common.{◌≡◌, ℕ, List, ap, ◌∙◌}
 use Rattle.std.specs.Bool.{Decides}
 use Rattle.std.specs.Cmp.Lexicographic.{pointwise_decides}

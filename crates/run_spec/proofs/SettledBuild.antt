@@ -1,4 +1,5 @@
--- What children make that were asked over the artefacts so far is what the settled build makes; and where the build is over, all of it.
+-- Where all children that ended were started over the artefacts so far, each artefact so far is that of the settled build. Once
+-- the build is over, the settled build has no other artefacts.
 use Rattle.std.proofs.Common.{◌≡◌, ℕ, suc, ◌<◌, ◌≤◌, ◌==◌, Bool, true, false, ◌&&◌, ◌||◌, cond, List, [], ◌∷◌, ◌++◌, length, map, get_or, Option, Some, None, refl, sym, ap, ap₂, subst, ◌∙◌, arith, inl, inr, is_some, All}
 use Rattle.std.specs.Option.{option_map}
 use Rattle.std.proofs.lemmas.Bool.{cases_Bool, cases_lt, cond-true, cond-false, and_parts, and_left, eqb-true, or_cases, false≢true}
@@ -16,7 +17,7 @@ use Rattle.run_spec.proofs.FoldLaws.{by_all_below, upto_at, upto_longer, upto_pa
 use Rattle.run_spec.proofs.BuiltLists.{Keeps, same_where, has_all_at, has_all_same, built_same, has_all_more, built_more}
 use Rattle.run_spec.proofs.Artefacts.{next_parts, artefact_at, artefact_free, artefact_stays, none_past}
 
--- ## What becomes of a file follows from what becomes of those below it
+-- ## The result of a file follows from the results of the files below it
 
 module _ (answer : Request → Exit) (graph : List Entry) (current : ℕ → List BuiltFile → Option (List ℕ)) where
   pub settled_past : (at : ℕ) → length graph ≤ at → settle answer graph current at ≡ Blocked
@@ -42,7 +43,7 @@ asked_by_exit exit = elim (cases_Bool (exit.code == 0)) [
   | inr bad ↦ ap is_asked (cond-false (exit.code == 0) (Compiled exit.output) (Refused exit.code exit.output) bad)
 ]
 
--- what is said of the exits of all children of a file is so of the first
+-- what holds for the exits of all children of a file holds for the exit of the first
 first_found : (xs : List End) (at : ℕ) (exit : Exit) (o : Option Exit) → All (λ end. end.position ≡ at → o ≡ Some end.exit) xs → exit_at xs at ≡ Some exit → o ≡ Some exit
 unfolding exit_at
 first_found [] at exit o all is = absurd (none-some exit is)
@@ -82,7 +83,7 @@ module _ (answer : Request → Exit) (work : Work) (ends : List End) where
     gives None out exit artefact printed is = printed artefact is
     gives (Some x) out exit artefact printed is = is
 
-    -- what becomes of a file, where those below it have the artefacts so far
+    -- the result of a file, if the settled build has the artefacts so far for the files below it
     settled_here : (at : ℕ) → at < length work.graph → All (λ dep. artefact_settled answer work.graph work.current dep ≡ artefact_so_far work ends dep) (deps_at work.graph at)
         → settle answer work.graph work.current at ≡ cond (has_all (artefact_so_far work ends) (deps_at work.graph at)) (settled_by (current_over at) (exit_over at)) Blocked
     settled_here at lt same =
@@ -120,7 +121,7 @@ module _ (answer : Request → Exit) (work : Work) (ends : List End) where
     exits : (at : ℕ) → All (λ end. end.position ≡ at → exit_over at ≡ Some end.exit) ends
     exits at k d l e = ap exit_over (sym e) ∙ exit_is (get_or ends k d) (answered k d l)
 
-    -- so is that of the first child of a file
+    -- the exit of the first child of a file is the compiler's answer over the artefacts so far
     pub first_exit : (at : ℕ) (exit : Exit) → exit_at ends at ≡ Some exit → exit_over at ≡ Some exit
     first_exit at exit is = first_found ends at exit (exit_over at) (exits at) is
 
@@ -209,7 +210,7 @@ module _ (answer : Request → Exit) (work : Work) (ends : List End) where
             | inr le ↦ none_past work (map child_of_end ends) at le ∙ sym (ap settled_artefact (settled_past answer work.graph work.current at le))
           ])
 
-      -- what becomes of a file, by the artefacts
+      -- the result of a file, by the artefacts so far
       pub settle_is : (at : ℕ) → at < length work.graph → settle answer work.graph work.current at ≡ cond (has_all (artefact_so_far work ends) (deps_at work.graph at)) (settled_by (current_over at) (exit_over at)) Blocked
       settle_is at lt = settled_here at lt (λ j d l. sym (whole (get_or (deps_at work.graph at) j d)))
 
@@ -253,7 +254,7 @@ module _ (answer : Request → Exit) (work : Work) (ends : List End) where
           (λ has. let it = ended_parts ends answered at has in ap is_asked (settle_is at lt) ∙ asked_where all (current_over at) (exit_over at) it.0 it.1 it.2)
           (λ asked. let it = asked_parts all (current_over at) (exit_over at) (sym (ap is_asked (settle_is at lt)) ∙ asked) in over_ended at (current_over at) it.1 (over_here at lt it.0))
 
--- what was asked stays so as more children end
+-- a request over the artefacts so far is also one over the artefacts after more ends
 pub asked_more : (work : Work) (ends more : List End) (position : ℕ) (request : Request) → IsAsked work ends position request → IsAsked work (ends ++ more) position request
 asked_more work ends more position request is =
     let f : ℕ → Option (List ℕ) = artefact_so_far work ends in
@@ -269,7 +270,7 @@ asked_more work ends more position request is =
 pub is_answered_more : (answer : Request → Exit) (work : Work) (ends more : List End) (end : End) → IsAnswered answer work ends end → IsAnswered answer work (ends ++ more) end
 is_answered_more answer work ends more end is = record { is = asked_more work ends more end.position end.request is.is; answered = is.answered }
 
--- where each end is answered, what becomes of the file in the settled build is what the compiler answers,
+-- if each end is answered, the result of a requested file in the settled build is the compiler's answer,
 module _ (answer : Request → Exit) (work : Work) (ends : List End) (ordered : (position : ℕ) → All (λ dep. dep < position) (deps_at work.graph position)) (answered : All (IsAnswered answer work ends) ends) where
   settled_deps : (position : ℕ) (request : Request) → IsAsked work ends position request → All (λ dep. artefact_settled answer work.graph work.current dep ≡ artefact_so_far work ends dep) (deps_at work.graph position)
   settled_deps position request is =

@@ -8,7 +8,7 @@ use Rattle.run_spec.specs.ChildJournal.{Work, EachAfter}
 use Rattle.run_spec.specs.Commits.{commits, ComesAfterCommits, Waits}
 use Rattle.run_spec.proofs.Journal.{EachAfter-append}
 
--- what is said of each event follows from more that is said of it
+-- a property of each event follows from a stronger one
 pub each_weaker : (P Q : List Event → Event → Type 0) → ((before : List Event) (event : Event) → P before event → Q before event) → (before events : List Event) → EachAfter P before events → EachAfter Q before events
 unfolding EachAfter
 each_weaker P Q to before [] each = tt

@@ -14,8 +14,9 @@ use Rattle.outside.specs.Records.{deps_at}
 use Rattle.run_spec.specs.Folds.{upto}
 use Rattle.run_spec.specs.Moves.{Workload, RunningChild, EndedChild, SchedulerState, empty_schedule, Move, Starts, Ends, Loses, next_start, LawfulMoves, GreedyMoves, IsFinished}
 
--- what a build works on: the graph; the artefact that a record gives of the file at a position, where it is current over what
--- was built below the file; how many children run at once; and whether the build goes on after a refusal
+-- What a build works on: a graph, its current artefacts, how many children run at once, and whether the build goes on after a
+-- refusal. `current` gives the recorded artefact of the file at a position, if its record is current over the given files that
+-- were built below it.
 pub record Work : Type 0 where
   pub graph : List Entry
   pub current : ℕ → List BuiltFile → Option (List ℕ)
@@ -57,7 +58,7 @@ unfoldable pub output_at : List EndedChild → ℕ → Option (List ℕ)
 output_at [] position = None
 output_at (end ∷ ended) position = if end.position == position && end.ok then Some end.output else output_at ended position
 
--- the first artefact, or the second where there is no first
+-- the first artefact, if there is one, or else the second
 abbrev pub or_else : Option (List ℕ) → Option (List ℕ) → Option (List ℕ)
 or_else None other = other
 or_else (Some artefact) other = Some artefact
@@ -189,12 +190,12 @@ unfoldable pub AreRequested : Work → BuildProgress → List Event → Type 0
 AreRequested setting progress [] = Unit {0}
 AreRequested setting progress (event ∷ events) = IsRequested setting progress event × AreRequested setting (after setting progress event) events
 
--- each event is as is said of it and of the events before it
+-- the property holds of each event and the events before it
 unfoldable pub EachAfter : (List Event → Event → Type 0) → List Event → List Event → Type 0
 EachAfter IsSo before [] = Unit {0}
 EachAfter IsSo before (event ∷ events) = IsSo before event × EachAfter IsSo (before ++ event ∷ []) events
 
--- a start's ticket is none that was given before
+-- no start before had the ticket of this start
 abbrev pub HasFreshTicket : List Event → Event → Type 0
 HasFreshTicket before (Started ticket request) = IsFresh before ticket
 HasFreshTicket before (Ended ticket exit) = Unit {0}

@@ -8,7 +8,7 @@ use Rattle.base.specs.declared.child.Request.{Request}
 use Rattle.base.specs.declared.child.Exit.{Exit}
 use Rattle.base.specs.Jobs.{compile_request}
 
--- what becomes of a file: an artefact, a refusal, or a file below it was refused
+-- the result of a file: it was made, it was refused, or a file that it depends on isn't made
 pub data Result : Type 0 where
   Made : BuiltFile → Result
   Refused : ℕ → List ℕ → Result
@@ -21,7 +21,7 @@ built_of (Some (Refused code output)) = None
 built_of (Some Blocked) = None
 built_of None = None
 
--- the files that an entry depends on, as far as they are made
+-- the files that an entry depends on and that are made, with their artefacts
 abbrev pub built_below : List Result → Entry → List BuiltFile
 built_below results entry = filter_map (λ dep. built_of (slice_get results dep)) entry.deps
 
@@ -33,11 +33,11 @@ result_of entry exit = if exit.code == 0 then Made (record { name = entry.name; 
 abbrev pub is_free : List Result → Entry → Bool
 is_free results entry = list_all (λ dep. is_some (built_of (slice_get results dep))) entry.deps
 
--- what becomes of one more file
+-- the result of one more file, over the results so far
 abbrev pub next_result : (Request → Exit) → List Result → Entry → Result
 next_result answer results entry = if is_free results entry then result_of entry (answer (compile_request entry (built_below results entry))) else Blocked
 
--- what becomes of the files that remain, after those
+-- the results so far, followed by those of the remaining files, in order
 unfoldable pub results_after : (Request → Exit) → List Result → List Entry → List Result
 results_after answer results [] = results
 results_after answer results (entry ∷ entries) = results_after answer (results ++ next_result answer results entry ∷ []) entries

@@ -15,7 +15,7 @@ use Rattle.run_spec.specs.Recorded.{current_by_request}
 abbrev pub work_of : (FileName → Option Record) → List Entry → ℕ → Bool → Work
 work_of latest_of graph slots keep_going = record { graph = graph; current = current_by_request latest_of graph; slots = slots; keep_going = keep_going }
 
--- what is asked for the file at a position over these files
+-- the compiler's inputs for the file at a position, over these files: its command, name, text and the files below it
 abbrev pub asked_over : List Entry → ℕ → List BuiltFile → Asked
 asked_over graph position built = option_map_or (λ entry. asked_of entry built) (slice_get graph position) (record { command = []; name = record { library = []; path = [] }; text = []; below = built })
 
@@ -35,12 +35,12 @@ commits_of graph ends = flat_map (commit_of graph) ends
 abbrev pub commits : Work → List Event → List Record
 commits setting events = commits_of setting.graph (progress_of setting events).ends
 
--- a start comes where all commits so far are among so many
+-- a start comes where the events before it commit at most the acknowledged number of records
 abbrev pub ComesAfterCommits : Work → ℕ → List Event → Event → Type 0
 ComesAfterCommits setting acknowledged before (Started ticket request) = length (commits setting before) ≤ acknowledged
 ComesAfterCommits setting acknowledged before (Ended ticket exit) = Unit {0}
 ComesAfterCommits setting acknowledged before (Gone ticket) = Unit {0}
 
--- where so many commits are acknowledged: each start comes where all commits so far are
+-- with this number of acknowledged commits, each start comes where all commits before it are acknowledged
 abbrev pub Waits : Work → (acknowledged : ℕ) → List Event → Type 0
 Waits setting acknowledged events = EachAfter (ComesAfterCommits setting acknowledged) [] events

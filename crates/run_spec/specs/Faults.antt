@@ -46,8 +46,8 @@ NoStartFailed (Some StartFailed) first now = Unit {0}
 NoStartFailed (Some ChildLost) first now = now.children.starts ≡ first.children.starts
 NoStartFailed (Some DiskFailed) first now = now.children.starts ≡ first.children.starts
 
--- What the counts say of a build: they explain its fault, a failed start is answered before a lost child and before the
--- disk, none fell, and the store is broken only where the disk failed.
+-- The counts of a build. No count fell, and they explain the fault that is answered. A lost child or a failed call of the disk
+-- is answered only where no start failed. The store is broken only where a call of the disk failed.
 pub record CountsBy (first_fault : Option RunFault) (broken : Bool) (first now : BuildFaultCounts) : Type 0 where
   pub none_fell : NoBuildCountFell first now
   pub explains : Explains first_fault first now

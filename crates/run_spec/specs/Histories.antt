@@ -22,24 +22,24 @@ pub record Sources : Type 0 where
   pub file : List ℕ → Option (List ℕ)
   pub listed : List (List ℕ)
 
--- what a run is to build: a graph, with so many children at once, going on after a refusal or not, over the records that
--- are there or over none
+-- what a run has to build: a graph, the number of children at once, whether to go on after a refusal, and whether to ignore the
+-- records on the disk
 pub record Order : Type 0 where
   pub graph : List Entry
   pub slots : ℕ
   pub keep_going : Bool
   pub clean : Bool
 
--- What stays the same in a history: the compiler, as a function of its requests; the records that an image holds; and the order
--- and the plan of tests that words and sources give, if any. Of simulators nothing stays the same.
+-- What stays the same in a history. The compiler is a function of its requests, and an image determines its records. Arguments
+-- and sources determine the order and the plan of tests, if any. Nothing is assumed of simulators.
 pub record World : Type 0 where
   pub compiler : Request → Exit
   pub records_of : Image → List Record
   pub reading : List (List ℕ) → Sources → Option Order
   pub plan : List (List ℕ) → Sources → Option TestPlan
 
--- a run: its words, its answer, whether its disk failed, the events of its compilers and those of its tests, which come after
--- them, and the moments of its disk after the one that it began at
+-- A run: its arguments, its answer, and whether its disk failed. Then the events of its compilers, and the events of its tests,
+-- which come after them. Last the moments of its disk after the one at which it began.
 pub record ProgramRun : Type 0 where
   pub words : List (List ℕ)
   pub outcome : Outcome
@@ -76,9 +76,9 @@ latest_over records_of clean disk name = if clean then None else latest name (re
 abbrev pub work_over : (Image → List Record) → Order → DiskState → Work
 work_over records_of order disk = work_of (latest_over records_of order.clean disk) order.graph order.slots order.keep_going
 
--- A run that builds: its events are lawful and hold the compiler's answers; its moments go through the phases of a store
--- to which its commits are added; each start comes where all commits so far are acknowledged; and all commits are, where
--- neither the disk nor memory failed.
+-- A run that builds a graph. Its events are lawful and hold the compiler's answers. Each later moment of its disk can be read
+-- as an image. The moments go through the phases of a store to which the run's commits are added. Each start comes where all
+-- commits before it are acknowledged. If neither the disk nor memory failed, all commits are acknowledged.
 pub record IsBuildRun (world : World) (order : Order) (run : ProgramRun) (first : DiskState) : Type 0 where
   pub graph : IsGraph order.graph
   pub lawful : Lawful (work_over world.records_of order first) run.events
@@ -89,7 +89,7 @@ pub record IsBuildRun (world : World) (order : Order) (run : ProgramRun) (first 
   pub waits : Waits (work_over world.records_of order first) acknowledged run.events
   pub all : run.disk_failed ≡ false → (run.outcome ≡ NoMemory → ⊥) → acknowledged ≡ length (commits (work_over world.records_of order first) run.events)
 
--- a run that starts no compiler and leaves the disk as it is
+-- a run that starts no compiler and doesn't change the disk
 pub record IsIdleRun (run : ProgramRun) : Type 0 where
   pub events : run.events ≡ []
   pub later : run.later ≡ []

@@ -13,8 +13,8 @@ pub record EndedChild : Type 0 where
   pub ok : Bool
   pub output : List ℕ
 
--- what the order of a build follows from: how many files there are, which files each one depends on, which are made once
--- these children have ended, how many children run at once, and whether the build goes on after a refusal
+-- What decides the order of a build: the number of files, the dependencies of each file, and which files are made once given
+-- children have ended. Also how many children run at once, and whether the build goes on after a refusal.
 pub record Workload : Type 0 where
   pub count : ℕ
   pub deps : ℕ → List ℕ
@@ -54,8 +54,8 @@ has_ended_well ended position = list_any (λ end. end.position == position && en
 abbrev pub is_made_so_far : Workload → SchedulerState → ℕ → Bool
 is_made_so_far workload schedule position = workload.is_made schedule.ended position
 
--- What is made follows step by step: a file depends on files before it, is made only where all of these are, and once they are
--- nothing more makes it but the good end of its child.
+-- Files are made step by step. A file depends on files before it only, and is made only where all of these are made. Once they
+-- are made, one more end makes the file exactly if it is the good end of the file's own child. A file that is made stays made.
 pub record IsStepwise (workload : Workload) : Type 0 where
   pub before : (position : ℕ) → position < workload.count → All (λ dep. dep < position) (workload.deps position)
   pub after_deps : (ended : List EndedChild) (position : ℕ) → position < workload.count → workload.is_made ended position ≡ true → list_all (workload.is_made ended) (workload.deps position) ≡ true
@@ -67,7 +67,7 @@ unfoldable pub is_startable : Workload → SchedulerState → ℕ → Bool
 is_startable workload schedule position =
     not (is_taken schedule position) && not (is_made_so_far workload schedule position) && list_all (is_made_so_far workload schedule) (workload.deps position)
 
--- the first position of the next so many that passes
+-- from a position on, the first of the given number of positions that passes the test
 unfoldable pub first_from : (ℕ → Bool) → ℕ → ℕ → Option ℕ
 first_from test position zero = None
 first_from test position (suc n) = if test position then Some position else first_from test (suc position) n

@@ -1,4 +1,4 @@
--- What is recorded of the files of a graph: the artefact of each file whose latest record has what would be asked for it.
+-- The recorded artefact of each file of a graph whose latest record is current.
 use Rattle.std.specs.Prelude.{ℕ, Bool, ◌&&◌, if◌then◌else◌, List, slice_get, Option, Some, None}
 use Rattle.std.specs.Option.{option_and_then}
 use Rattle.std.specs.Str.{bytes_eq}
@@ -17,10 +17,11 @@ is_same_built a b = is_same_name a.name b.name && bytes_eq a.artefact b.artefact
 unfoldable pub is_same_asked : Asked → Asked → Bool
 is_same_asked a b = pointwise bytes_eq a.command b.command && is_same_name a.name b.name && bytes_eq a.text b.text && pointwise is_same_built a.below b.below
 
--- the artefact of a record, where it has what is asked
+-- the artefact of a record, if the record has these inputs of the compiler
 abbrev pub artefact_for : Asked → Record → Option (List ℕ)
 artefact_for asked kept = if is_same_asked kept.asked asked then Some kept.artefact else None
 
--- the artefact of the latest record of the file at a position, where that record has what is asked for it over these files
+-- the artefact of the latest record of the file at a position, if that record has the compiler's inputs for the file over these
+-- files
 unfoldable pub current_by_request : (FileName → Option Record) → List Entry → ℕ → List BuiltFile → Option (List ℕ)
 current_by_request latest_of graph at built = option_and_then (λ entry. option_and_then (artefact_for (asked_of entry built)) (latest_of entry.name)) (slice_get graph at)

@@ -1,4 +1,4 @@
--- The settled build: what becomes of each file of a build that is done and that no refusal halted, whatever the order of ends.
+-- The settled build: the result of each file in a build that is done and that no refusal halted, whatever the order of ends.
 use Rattle.std.specs.Prelude.{◌≡◌, ℕ, ◌<◌, Bool, true, false, ◌||◌, ◌==◌, if◌then◌else◌, List, length, slice_get, Option, Some, None, is_some}
 use Rattle.std.specs.Option.{option_map}
 use Rattle.std.specs.List.{filter_map}
@@ -12,8 +12,8 @@ use Rattle.outside.specs.Records.{deps_at}
 use Rattle.run_spec.specs.Folds.{upto}
 use Rattle.run_spec.specs.ChildJournal.{Work, End, exit_at, has_all, built_at, artefact_so_far}
 
--- What becomes of a file: a file below it was refused or has no artefact, its record is current, or its compiler gave an
--- artefact or refused it.
+-- The result of a file in the settled build. It is blocked if a file that it depends on has no artefact, and fresh if its
+-- record is current. Otherwise its compiler gave an artefact or refused it.
 pub data Settled : Type 0 where
   Blocked : Settled
   Fresh : List ℕ → Settled
@@ -35,19 +35,19 @@ request_over graph position built = option_map (λ entry. compile_request entry 
 abbrev pub settled_by_exit : Exit → Settled
 settled_by_exit exit = if exit.code == 0 then Compiled exit.output else Refused exit.code exit.output
 
--- what becomes of a file over these files below it, by what a current record gives, or else by what its compiler answers
+-- the result of a file over these files below it: fresh by a current record, or else by the compiler's answer
 abbrev pub settled_by : Option (List ℕ) → Option Exit → Settled
 settled_by (Some artefact) exit = Fresh artefact
 settled_by None None = Blocked
 settled_by None (Some exit) = settled_by_exit exit
 
--- what becomes of one more file
+-- the result of one more file, over the results so far
 abbrev pub next_settled : (Request → Exit) → List Entry → (ℕ → List BuiltFile → Option (List ℕ)) → (ℕ → Settled) → ℕ → Settled
 next_settled answer graph current so_far position =
     let built = built_at graph (λ dep. settled_artefact (so_far dep)) (deps_at graph position) in
     if has_all (λ dep. settled_artefact (so_far dep)) (deps_at graph position) then settled_by (current position built) (option_map answer (request_over graph position built)) else Blocked
 
--- what becomes of the file at a position
+-- the result of the file at a position
 unfoldable pub settle : (Request → Exit) → List Entry → (ℕ → List BuiltFile → Option (List ℕ)) → ℕ → Settled
 settle answer graph current position = upto (next_settled answer graph current) Blocked (length graph) position
 

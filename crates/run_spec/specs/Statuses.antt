@@ -1,4 +1,4 @@
--- What became of each file of a build, by its journal.
+-- The status of each file of a build, by its journal.
 use Rattle.std.specs.Prelude.{◌≡◌, ◌⊎◌, ℕ, Bool, false, true, if◌then◌else◌, List, [], ◌∷◌, length, map, Option, Some, None}
 use Rattle.std.specs.List.{list_any}
 use Rattle.base.specs.declared.graph.Entry.{Entry}
@@ -14,9 +14,9 @@ use Rattle.run_spec.specs.Settled.{Settled, Blocked, settle}
 use Rattle.run_spec.specs.Settled as settled
 use Rattle.run_spec.specs.ChildJournal.{Work, End, exit_at, artefact_so_far, progress_of}
 
--- What became of a file, by whether a child of it has ended and whether there is an artefact of it: compiled with both;
--- refused with an end alone; fresh with an artefact alone; with neither it waits for a file that isn't made, or was
--- left when the build stopped.
+-- The status of a file. A file with an ended child is compiled if it has an artefact, and refused if not. A file without an
+-- ended child is fresh if it has an artefact. Otherwise it is skipped in a build that goes on after refusals, and left in one
+-- that stops.
 abbrev pub status_of : Bool → Option Exit → Option (List ℕ) → FileStatus
 status_of keep_going (Some exit) (Some artefact) = Compiled
 status_of keep_going (Some exit) None = Refused exit.code exit.output

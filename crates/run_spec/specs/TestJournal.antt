@@ -13,7 +13,7 @@ use Rattle.testbench_runs.specs.declared.runs.TestRun.{TestRun}
 use Rattle.testbench_runs.specs.BenchJobs.{bench_request}
 use Rattle.testbench_runs.specs.Verdicts.{is_passed}
 
--- what is to be run: the runs in order, the command of the simulator, and whether nothing more is started after a failed run
+-- the plan of tests: the runs in order, the command of the simulator, and whether nothing more is started after a failed run
 pub record TestPlan : Type 0 where
   pub runs : List TestRun
   pub simulator : List (List ℕ)
@@ -48,7 +48,7 @@ abbrev pub has_passed : Option TestRun → Exit → Bool
 has_passed None exit = false
 has_passed (Some run) exit = is_passed run exit
 
--- the run at a position has passed with this exit; false where there is no position
+-- the run at a position has passed with this exit; false without a position
 abbrev pub passed_at : TestSetting → Option ℕ → Exit → Bool
 passed_at setting None exit = false
 passed_at setting (Some position) exit = has_passed (slice_get setting.plan.runs position) exit
@@ -63,7 +63,7 @@ test_move setting progress (Started ticket request) = Starts (unwrap_or (next_ru
 test_move setting progress (Ended ticket exit) = Ends ticket (passed_at setting (position_of ticket progress.schedule.running) exit) exit.output
 test_move setting progress (Gone ticket) = Loses ticket
 
--- the exit as that of the run at a position; none where there is no position
+-- the exit of the run at a position; no exit without a position
 abbrev pub exits_of : Option ℕ → Exit → List TestExit
 exits_of None exit = []
 exits_of (Some position) exit = record { position = position; exit = exit } ∷ []
