@@ -123,7 +123,7 @@ module _ (machine : BuildScheduler) (workload : Workload) (schedule : SchedulerS
   shut true halted is = ap not is
   shut false halted is = refl
 
-  -- what the machine would start is what is to be started now
+  -- the position that the machine would start is the one to be started now
   pub candidate_same : check_of machine ≡ None → candidate_of machine ≡ start_now workload schedule
   unfolding candidate_of next_start
   candidate_same h = elim (cases_Bool machine.is_stopped) [
@@ -183,7 +183,8 @@ pub no_halt : (h n : Bool) → n ≡ true → (h || (not n && not false)) ≡ h
 no_halt true n is = refl
 no_halt false n is = ap (λ b. not b && not false) is
 
--- the lists are unchanged, and so are the tests of what was taken and what is made
+-- the lists and the taken positions are unchanged; each checked file is made exactly if it was before, and a made file stays
+-- made
 pub in_step_as : (old new : BuildScheduler) (workload : Workload) (schedule next : SchedulerState) → new.checked.items ≡ old.checked.items → new.made.items ≡ old.made.items → new.later ≡ old.later → new.ready ≡ old.ready → new.limit ≡ old.limit
     → new.keep_going ≡ old.keep_going → next.taken ≡ schedule.taken → ((k : ℕ) → k < workload.count → is_checked old k ≡ true → is_made_so_far workload next k ≡ is_made_so_far workload schedule k)
     → ((k : ℕ) → k < workload.count → is_made_so_far workload schedule k ≡ true → is_made_so_far workload next k ≡ true)

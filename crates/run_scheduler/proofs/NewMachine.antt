@@ -37,7 +37,7 @@ pub undone_first : (made : List Bool) → 0 ≡ undone (λ dep. get_or made dep 
 unfolding undone
 undone_first made = refl
 
--- one more dependency is counted where it isn't made
+-- one more dependency is counted if it isn't made
 pub undone_step : (made : List Bool) (deps : List ℕ) (i count more : ℕ) (b : Bool) → i < length deps → get_or made (get_or deps i 0) false ≡ b → count ≡ undone (λ dep. get_or made dep false) (take i deps) → more ≡ count + cond b 0 1
     → more ≡ undone (λ dep. get_or made dep false) (take (i + 1) deps)
 unfolding undone

@@ -31,7 +31,7 @@ first_same p q from (suc n) same =
     ap (λ b. cond b (Some from) (first_from p (suc from) n)) (same from (omega arith) (omega arith))
     ∙ ap (λ rest. cond (q from) (Some from) rest) (first_same p q (suc from) n (λ k a b. same k (omega arith) (omega arith)))
 
--- the position that is found passes, and lies among those that were tried
+-- the position that is found passes the test, and is one of the positions that were tried
 pub first_is : (p : ℕ → Bool) (from n i : ℕ) → first_from p from n ≡ Some i → (p i ≡ true) × (i < from + n)
 unfolding first_from
 first_is p from zero i h = absurd (let nothing : ⊥ = cc in nothing)
@@ -45,7 +45,7 @@ first_is p from (suc n) i h = elim (cases_Bool (p from)) [
       (rest.0, omega (arith, rest.1))
 ]
 
--- where none is found none of those passes
+-- if no position is found, no position that was tried passes the test
 pub none_passes : (p : ℕ → Bool) (from n : ℕ) → first_from p from n ≡ None → (k : ℕ) → from ≤ k → k < from + n → p k ≡ false
 unfolding first_from
 none_passes p from zero h k a b = absurd (omega arith)

@@ -24,7 +24,7 @@ first_left scheduler workload schedule is =
 running_count : (scheduler : TestScheduler) (workload : Workload) (schedule : SchedulerState) → IsSchedulerOf scheduler workload schedule → length scheduler.children.items ≡ length schedule.running
 running_count scheduler workload schedule is = sym (ap (λ (xs : List RunningChild). length xs) is.running ∙ length-map scheduler.children.items running_child)
 
--- what the row would start is what is to be started now
+-- the position that the scheduler would start is the one to be started now
 pub candidate_same : (scheduler : TestScheduler) (workload : Workload) (schedule : SchedulerState) → IsSchedulerOf scheduler workload schedule → candidate_of scheduler ≡ start_now workload schedule
 unfolding candidate_of
 candidate_same scheduler workload schedule is =

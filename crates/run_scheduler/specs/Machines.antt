@@ -16,8 +16,9 @@ use Rattle.run_scheduler.specs.declared.step.BuildStep.{BuildStep}
 use Rattle.run_scheduler.specs.declared.step.BuildStep.TheVariants.{Check, Run}
 use Rattle.run_scheduler.specs.declared.build_scheduler.BuildScheduler.{BuildScheduler}
 
--- The job of a build: the files of a graph, the slots, and whether it goes on after a refusal; and a plan for it: all that a
--- file depends on which isn't checked later is made from the start, and so are the fresh files and no stale ones.
+-- The workload of a build: the files of a graph, the number of children at once, and whether the build goes on after a refusal.
+-- The plan holds for it: if a file isn't to be checked later, all its dependencies are made from the start. Such a file is
+-- itself made from the start exactly if it is fresh.
 pub record IsWorkloadOf (workload : Workload) (graph : List Entry) (needs : List Need) (limit : ℕ) (goes_on : Bool) : Type 0 where
   pub stepwise : IsStepwise workload
   pub count : workload.count ≡ length graph

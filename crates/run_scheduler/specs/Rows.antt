@@ -6,7 +6,7 @@ use Rattle.run_spec.specs.declared.step.Step.{Step}
 use Rattle.run_spec.specs.Steps.{step_of, running_child}
 use Rattle.run_scheduler.specs.declared.test_scheduler.TestScheduler.{TestScheduler}
 
--- a job of so many runs, none of which depends on another, each made where its child has ended well
+-- a workload of this number of runs, without dependencies; a run is made once its child has ended well
 pub record IsSchedulerWorkload (workload : Workload) (runs limit : ℕ) (fail_fast : Bool) : Type 0 where
   pub count : workload.count ≡ runs
   pub deps : (at : ℕ) → workload.deps at ≡ []
