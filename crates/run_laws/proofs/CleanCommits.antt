@@ -21,7 +21,7 @@ use Rattle.run_spec.proofs.Artefacts.{deps_before}
 use Rattle.run_spec.proofs.RecordNames.{asked_is}
 use Rattle.run_laws.proofs.JournalAnswers.{AreAnswered, IsEndOver, answers_of}
 
--- the request of what is asked for a file
+-- the request of the inputs that a child's file had over the files below is the request that the child was started with
 request_asked : (work : Work) (end : End) → IsEndOver work end → request_of (asked_over work.graph end.position end.below) ≡ end.request
 request_asked work end over = from (slice_get work.graph end.position) refl
   where

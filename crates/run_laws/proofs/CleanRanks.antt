@@ -1,4 +1,4 @@
--- What a clean build gives at each position: what becomes of the file there, over all results.
+-- The result of a clean build at each position: the result of the file there, over all results.
 use Rattle.std.proofs.Common.{◌≡◌, ℕ, zero, suc, ◌+◌, ◌<◌, Bool, ◌&&◌, cond, List, [], ◌∷◌, ◌++◌, length, get_or, Option, Some, refl, sym, ap, ◌∙◌, arith}
 use Rattle.std.specs.Prelude.{All, slice_get, is_some}
 use Rattle.std.specs.List.{list_all, filter_map, cons_option}
@@ -26,7 +26,7 @@ filter_map-same f g [] d h = refl
 filter_map-same {X} {Y} f g (x ∷ xs) d h =
     filter_map-cons f x xs (g x) (h 0 (omega arith)) ∙ ap (cons_option (g x)) (filter_map-same f g xs d (λ k l. h (suc k) (omega arith)))
 
--- what becomes of a file, by whether all below it is made, and what is
+-- the result of a file, by whether all files that it depends on are made, and by these files
 unfoldable pub step : (Request → Exit) → Entry → Bool → List BuiltFile → Result
 step answer entry free built = cond free (result_of entry (answer (compile_request entry built))) Blocked
 
@@ -79,7 +79,7 @@ module _ (answer : Request → Exit) where
 pub length-clean : (answer : Request → Exit) (graph : List Entry) → length (clean_build answer graph) ≡ length graph
 length-clean answer graph = omega (arith, length-after answer [] graph)
 
--- what becomes of the file at a position, over all results
+-- the result of the file at a position, over all results
 pub clean_at : (answer : Request → Exit) (graph : List Entry) (at : ℕ) (entry : Entry) → slice_get graph at ≡ Some entry → All (λ dep. dep < at) entry.deps
     → slice_get (clean_build answer graph) at ≡ Some (next_result answer (clean_build answer graph) entry)
 clean_at answer graph at entry found low =

@@ -64,7 +64,7 @@ module _ (answer : Request → Exit) (graph : List Entry) (valid : IsGraph graph
         ap (filter_map (λ dep. built_file (slice_get graph dep) (bare dep))) (entry_deps graph at entry found)
         ∙ filter_map-same (λ dep. built_file (slice_get graph dep) (bare dep)) (λ dep. built_of (slice_get clean dep)) entry.deps 0 (λ k l. before (get_or entry.deps k 0) (low k 0 l))
 
-    -- what becomes of the file, in words of the clean build
+    -- the result of the file without records, in terms of the clean build
     settled_clean : settle answer graph none_current at ≡ cond (is_free clean entry) (settled_by_exit (answer (compile_request entry (built_below clean entry)))) settled.Blocked
     settled_clean =
         settle_at answer graph none_current (deps_before graph valid) at lt
@@ -131,7 +131,7 @@ module _ (answer : Request → Exit) (graph : List Entry) (valid : IsGraph graph
     asked_free true s h = refl
     asked_free false s h = h
 
-    -- and what it asks is what a clean build asks
+    -- and each request of the settled build is that of a clean build
     pub request_clean : (at : ℕ) (request : Request) → request_unless answer graph current at ≡ Some request → clean_request answer graph at ≡ Some request
     request_clean at request is = elim (cases_Bool (is_asked (settle answer graph current at))) [
       | inr other ↦ absurd (none-some request (sym (cond-false (is_asked (settle answer graph current at)) _ None other) ∙ is))
@@ -153,7 +153,7 @@ module _ (answer : Request → Exit) (graph : List Entry) (valid : IsGraph graph
       ]
     ]
 
-    -- so that what becomes of a file follows from what a clean build makes below it
+    -- so that the result of a file follows from the results of a clean build below it
     module _ (at : ℕ) (entry : Entry) (found : slice_get graph at ≡ Some entry) where
       abbrev all : ℕ → Option (List ℕ)
       all = artefact_settled answer graph current

@@ -35,7 +35,7 @@ count_ends-append : (k : ℕ) (xs ys : List End) → count_ends k (xs ++ ys) ≡
 count_ends-append k [] ys = omega arith
 count_ends-append k (end ∷ xs) ys = omega (arith, count_ends-append k xs ys)
 
--- a file that wasn't taken has none
+-- a file that wasn't taken has no running child
 no_run : (progress : BuildProgress) (k : ℕ) → was_taken progress k ≡ false → (runs : List Run) → All (λ run. was_taken progress run.position ≡ true) runs → count_runs k runs ≡ 0
 no_run progress k fresh [] all = refl
 no_run progress k fresh (run ∷ runs) all =

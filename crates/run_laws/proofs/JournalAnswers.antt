@@ -18,7 +18,7 @@ use Rattle.run_spec.proofs.SettledBuild.{asked_more, is_answered_more}
 use Rattle.run_spec.proofs.Steps.{Steps, run_found, All-others, steps_of}
 use Rattle.run_laws.proofs.JournalProgress.{startable_parts, next_parts}
 
--- what is asked for a file
+-- the request of a file is that over the artefacts so far of the files below it
 pub request_is : (work : Work) (ends : List End) (position : ℕ) → request_at work ends position ≡ request_over work.graph position (built_at work.graph (artefact_so_far work ends) (deps_at work.graph position))
 unfolding request_at
 request_is work ends position = from (slice_get work.graph position) refl
@@ -53,7 +53,7 @@ start_asked work ordered progress position request next asks =
           (sym (artefact_free work ordered (map child_of_end progress.ends) position rank.0 parts.2) ∙ parts.1);
     }
 
--- a child was started with what is asked for its file over the files below that were built
+-- a child was started with the request of its file over the files below that were built
 abbrev pub IsRunOver : Work → Run → Type 0
 IsRunOver work run = request_over work.graph run.position run.below ≡ Some run.request
 

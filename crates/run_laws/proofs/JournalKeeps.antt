@@ -25,8 +25,9 @@ runs_at runs position = list_any (λ run. eqb run.position position) runs
 abbrev pub is_refusal : End → Bool
 is_refusal end = not (eqb end.exit.code 0)
 
--- all that runs or has ended was taken; where no end was lost all that was taken runs or has ended, and what halts is a
--- refusal; a build that is not halted has lost no end, and, unless it goes on after refusals, has none
+-- Each file of a running or ended child was taken. If no end was lost, each taken file has a running or ended child, and only a
+-- refusal halts the build. A build that isn't halted has lost no end. Unless it goes on after refusals, a build that isn't
+-- halted has no refusal.
 pub record IsOrderly (setting : Work) (lost : Bool) (progress : BuildProgress) : Type 0 where
   pub runs : All (λ run. was_taken progress run.position ≡ true) progress.runs
   pub ends : All (λ end. was_taken progress end.position ≡ true) progress.ends

@@ -29,7 +29,7 @@ held (x ∷ xs) k h =
       | inr rest ↦ let found = held xs k rest in (suc found.0, omega (arith, found.1), found.2)
     ]
 
--- and what it doesn't find is none of the list
+-- a position that the test doesn't find differs from each in the list
 unlike : (xs : List ℕ) (k : ℕ) → list_any (λ other. eqb other k) xs ≡ false → (j : ℕ) (d : ℕ) → j < length xs → get_or xs j d ≢ k
 unlike [] k h j d lt = absurd (omega arith)
 unlike (x ∷ xs) k h zero d lt = λ same. both_ways (eqb x k) (or_parts (eqb x k) (list_any (λ other. eqb other k) xs) h).0 (eq-eqb x k same)

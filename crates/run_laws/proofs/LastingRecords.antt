@@ -74,7 +74,7 @@ module _ (records_of : Image → List Record) (name : FileName) (kept : Record) 
         ∙ ap (latest name) (sym (append_assoc base one.before (one.only ∷ take rest one.after)))
         ∙ latest_last name (base ++ one.before) one.only (take rest one.after) one.of (none_of_take name rest one.after one.none_after)
 
-    -- the record is latest where the image has so many records
+    -- if the record is the latest of its name in an image, the image has at least this number of records
     pub long_has : (image : Image) → HasFirst 0 high base more (records_of image) → HasLatest image → long ≤ length (records_of image)
     long_has image has is =
         elim (cases_lt (length one.before) has.count) [
@@ -126,7 +126,7 @@ module _ (world : World) (name : FileName) (kept : Record) (order : Order) (run 
   abbrev Latest : Image → Type 0
   Latest image = latest name (records_of image) ≡ Some kept
 
-  -- the record isn't among those that commits are added to, where it is one of the commits
+  -- if the record is one of the commits, it isn't the latest among the records to which commits are added
   not_base : (clean : Bool) → order.clean ≡ clean → (base : List Record) → IsBase records_of clean first base → HasOne name more → latest name base ≡ Some kept → ⊥
   not_base true e base from one is = none-some kept (sym (nothing_latest name base from) ∙ is)
   not_base false e base from one is =

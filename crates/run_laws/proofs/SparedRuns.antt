@@ -1,4 +1,4 @@
--- A run starts no file that has an acknowledged record of what is asked of it, and leaves that record.
+-- A run doesn't start a file whose acknowledged record is current, and keeps that record acknowledged.
 use Rattle.std.proofs.Common.{◌<◌, ℕ, ◌≡◌, ◌⊎◌, Bool, true, false, eqb, cond, List, [], ◌∷◌, get_or, zero, suc, refl, is_some, Option, Some, None, sym, ap, subst, ◌∙◌, inl, inr, arith, length}
 use Rattle.std.specs.Prelude.{All, Contains, slice_get}
 use Rattle.std.specs.Option.{option_map}
@@ -56,7 +56,7 @@ pub nothing_taken : (setting : Work) (k : ℕ) → Contains (progress_of setting
 unfolding after_all
 nothing_taken setting k contains = absurd (omega (arith, contains.1))
 
--- what is asked of a compiler is what no record is current over
+-- if a compiler is asked for a file, no record of the file is current
 uncurrent : (all : Bool) (kept : Option (List ℕ)) (exit : Option Exit) → is_asked (cond all (settled_by kept exit) Blocked) ≡ true → kept ≡ None
 uncurrent true None exit h = refl
 uncurrent true (Some artefact) exit h = absurd (false≢true h)
@@ -157,7 +157,7 @@ module _ (world : World) (name : FileName) (kept : Record) where
   run_leaves (Some order) run first readable here (inr build) leaves =
       stays_acknowledged order run first build leaves.0 readable here (left_none order run first build leaves.0 readable here leaves.1)
 
--- where each file has an acknowledged record of what is asked over the artefacts of all, a run starts nothing
+-- if each file has an acknowledged record that is current over the artefacts of all files, a run starts nothing
 pub nothing_started : (world : World) (order : Order) (run : ProgramRun) (first : DiskState) (artefact_of : ℕ → List ℕ) → IsReadable first → RunStep world (Some order) run first → order.clean ≡ false →
     ((position : ℕ) (entry : Entry) → slice_get order.graph position ≡ Some entry → IsAcknowledged world entry.name (record_at order.graph position (built_at order.graph (λ p. Some (artefact_of p)) (deps_at order.graph position)) (artefact_of position)) first) → run.events ≡ []
 nothing_started world order run first artefact_of readable (inl idle) over each = idle.events

@@ -30,7 +30,7 @@ stays_rest : (P : Image → Type 0) (first : DiskState) (rest : List DiskState) 
 stays_rest P first [] moment after stays = stays.1
 stays_rest P first (x ∷ rest) moment after stays = stays_rest P x rest moment after stays.1
 
--- what is kept from the first state on is kept from each later one on
+-- a property that stays true from the first state on stays true from each later state on
 stays_from : (P : Image → Type 0) (first : DiskState) (later before : List DiskState) (moment : DiskState) (after : List DiskState) → first ∷ later ≡ before ++ moment ∷ after → StaysTrue P first later → StaysTrue P moment after
 stays_from P first later [] moment after e stays =
     let same : first ≡ moment = cc in

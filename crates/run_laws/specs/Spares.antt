@@ -21,11 +21,12 @@ pub record HasFile (order : Order) (name : FileName) : Type 0 where
   pub is_entry : slice_get order.graph position ≡ Some entry
   pub is_name : entry.name ≡ name
 
--- what becomes of the files of an order, whatever the order of ends, over the records of the disk that its run finds
+-- the artefact of each file of an order in the settled build, over the records of the disk that its run finds
 abbrev pub settled_over : World → Order → DiskState → ℕ → Option (List ℕ)
 settled_over world order first = artefact_settled world.compiler order.graph (work_over world.records_of order first).current
 
--- The graph of an order has a file of this name, of which this is asked over what becomes of the files that it depends on.
+-- The graph of an order has a file of this name, and the settled build makes all files that it depends on. Over their
+-- artefacts, the compiler's inputs for the file are these.
 pub record HasFileAsked (world : World) (order : Order) (first : DiskState) (name : FileName) (asked : Asked) : Type 0 where
   pub file : HasFile order name
   pub all_made : has_all (settled_over world order first) (deps_at order.graph file.position) ≡ true
