@@ -1,4 +1,4 @@
--- The artefacts of records that payloads stand for have at most so many bytes.
+-- The artefacts of the records that payloads stand for are within the size limit.
 use Rattle.std.proofs.Common.{◌≡◌, ℕ, ◌≤◌, Bool, true, false, List, [], ◌∷◌, length, Option, Some, None, refl, sym, subst, arith}
 use Rattle.std.specs.Prelude.{All, IfSome, if◌then◌else◌}
 use Rattle.std.specs.List.{fold}

@@ -97,7 +97,7 @@ module _ (table : RecordTable) (graph : List Entry) (is_graph : IsGraph graph) (
       let is = subst (λ (e : Entry). IsEntryAt graph at e) here (is_graph.each at entry low) in
       record { name = is.name; command = is.command; text = is.text; few = omega (arith, as_many, few entry.deps rising at before, low, is_graph.few); small = small }
 
-  -- the name of a file as it was built
+  -- a file that was built has the name of its file in the graph
   built_name : (p : ℕ) (other : Entry) → HasLatest (λ name. latest_request name table.records) graph p → (latest_built (λ name. latest_request name table.records) graph p).name ≡ (get_or graph p other).name
   built_name p other has =
       let is : latest_built (λ name. latest_request name table.records) graph p ≡ built_of_record has.kept = ap (λ (o : Option Entry). option_map_or (λ (f : Entry). option_map_or built_of_record (latest_request f.name table.records) no_product) o no_product) has.is_entry ∙ ap (λ (o : Option RequestRecord). option_map_or built_of_record o no_product) has.is in

@@ -162,8 +162,8 @@ pub found_generation : (image : Image) (journal : JournalState) (form : ℕ) →
 found_generation image journal form is opens =
     generation_is image journal (counting 3 image) (subst (λ (f : ℕ). OpensAt image (counting f image) journal) is opens)
 
--- What is asked of payloads is asked of an image of another form where neither is: it has no payloads of form 3, and compaction would keep
--- all of the others.
+-- An image without form 3 asks for compaction if these payloads do. In fact neither asks for it: the image has no payloads of
+-- form 3, and compaction would keep all of these payloads.
 pub taken_asks : (image : Image) (generation : ℕ) (held : List (List ℕ)) → has_form 3 image ≡ false → held ≡ compacted_requests (requests_among held) → AsksCompaction generation held → ImageAsksCompaction image
 taken_asks image generation held none live asks = absurd (none_asked generation held live asks)
 

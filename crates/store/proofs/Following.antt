@@ -55,7 +55,8 @@ built_latest records apart file (k, low, is) =
     subst (λ (f : BuiltFile). option_map built_of_record (latest f.name records) ≡ Some f) same
     (ap (option_map built_of_record) (latest_of records apart (get_or records k no_record) (Contains-get_or records k no_record n)))
 
--- What the laws of migration say of requests, as they are listed.
+-- A list of requests that follow the laws of migration. Their names are distinct, and their parts are within the limits. The
+-- files below a request have distinct names other than its own, and each was built by an earlier request of the list.
 pub record AreSound (requests : List Record) : Type 0 where
   pub distinct : AllPairs (λ a b. a.asked.name ≢ b.asked.name) requests
   pub names : All (λ kept. FitsName kept.asked.name) requests

@@ -1,4 +1,4 @@
--- What is known of the handle of a file.
+-- The record handle, text, command and dependencies of the file at a position.
 use Rattle.std.proofs.Common.{◌≡◌, ℕ, ◌<◌, List, length, map, get_or, None, Some, Option, false, sym, ap, subst, ◌∙◌, arith}
 use Rattle.std.specs.Prelude.{All, slice_get}
 use Rattle.std.proofs.lemmas.List.{get_or-map, length-map}

@@ -119,7 +119,7 @@ requests_changed = read_changed migrated_among requests_among migrated_none
 pub requests_older : (image : Image) → has_form 3 image ≡ false → has_form 2 image ≡ true → requests_in image ≡ migrated_requests (node_contents_of (payloads 2 image)).records
 requests_older = read_older migrated_among requests_among
 
--- while form 3 is live, what is said of its records is said of all
+-- if form 3 is live at each moment, a property of the records of form 3 is one of all records
 module _ (old new : Moments) (live : AtAnyMoment old new (λ image. has_form 3 image ≡ true)) (P : List RequestRecord → Type 0) where
   pub moments_of : AtAnyMoment old new (λ image. P (own_requests image)) → AtAnyMoment old new (λ image. P (requests_in image))
   moments_of moments =

@@ -1,4 +1,4 @@
--- What is said of a run in other words, and what is never lost.
+-- Equivalent properties of the images of a run, and properties that a run never loses.
 use Rattle.std.proofs.Common.{List, [], ◌∷◌}
 use Rattle.std.specs.List.{AllByRecursion}
 use Rattle.outside.specs.Disks.{AtAnyMoment, DiskState, EachImage, Image, Moments, NeverLoses, StaysTrue, added_since}
@@ -8,7 +8,7 @@ keeps_as Q P R to from disk [] all keeps = tt
 keeps_as Q P R to from disk (next ∷ later) all keeps =
     ((λ each image is. from image (all.1.0 image is) (keeps.0 (λ other there. to other (all.0 other there) (each other there)) image is)), keeps_as Q P R to from next later all.1 keeps.1)
 
--- where two things are the same of all images of a run, what is said of one is said of the other
+-- if two properties are equivalent for all images of a run, a run that never loses one never loses the other
 pub losses_as : (old new : Moments) (Q P R : Image → Type 0) → ((image : Image) → Q image → R image → P image) → ((image : Image) → Q image → P image → R image) → AtAnyMoment old new Q → NeverLoses old new P → NeverLoses old new R
 losses_as old new Q P R to from moments never = record { follows = never.follows; keeps = keeps_as Q P R to from old.now (added_since old new) moments.each never.keeps }
 

@@ -15,11 +15,11 @@ module _ {X : Type 0} (test : X → X → Bool) (each : (a b : X) → Decides (t
   abbrev number : List X → X → ℕ
   number xs x = position_or_len (λ other. test other x) xs
 
-  -- what has a number below the length is there
+  -- an item whose number is below the length is in the list
   pub at_number : (xs : List X) (x d : X) → number xs x < length xs → get_or xs (number xs x) d ≡ x
   at_number xs x d low = (each (get_or xs (number xs x) d) x).0 (passes_at_first (λ other. test other x) xs d low)
 
-  -- and what is there has one
+  -- and an item of the list has a number below the length
   pub numbered : (xs : List X) (x : X) → Contains xs x → number xs x < length xs
   numbered xs x has = elim (cases_lt (number xs x) (length xs)) [
     | inl low ↦ low
@@ -59,7 +59,7 @@ module _ {X : Type 0} (test : X → X → Bool) (each : (a b : X) → Decides (t
       let some : nat_lt (number xs x) (length xs) ≡ true = grind (arith, nat_tests) in
       rw some (ap (λ (n : ℕ). Some n) same)
 
-  -- what is there keeps its number where more comes
+  -- an item of the list keeps its number if more items follow
   pub number_grown : (xs more : List X) (x : X) → Contains xs x → number (xs ++ more) x ≡ number xs x
   number_grown xs more x has =
       let low : number xs x < length xs = numbered xs x has in
@@ -67,6 +67,6 @@ module _ {X : Type 0} (test : X → X → Bool) (each : (a b : X) → Decides (t
       (λ k l. rw (get_or_append_left xs more x k (omega (arith, l, low))) (fails_before_first (λ other. test other x) xs k x l))
       (λ l. rw (get_or_append_left xs more x (number xs x) low) (passes_at_first (λ other. test other x) xs x low))
 
--- what is there stays there
+-- an item of a list is still in the list if more items follow
 pub still_there : {X : Type 0} (xs more : List X) (x : X) → Contains xs x → Contains (xs ++ more) x
 still_there xs more x has = (has.0, omega (arith, has.1, length-append xs more), get_or_append_left xs more x has.0 has.1 ∙ has.2)

@@ -69,7 +69,7 @@ module _ (table : RecordTable) (numbers more : List ℕ) where
 abbrev pub no_step : CompactionStep
 no_step = steps.OfProduct (record { product = 0; text = None })
 
--- payloads that were carried are as they were
+-- the planned payloads don't change if product numbers are added
 pub payloads_grown : (table : RecordTable) (old new : CompactionPlan) (more : List ℕ) → IsPlanIn table old → new.products.numbers ≡ old.products.numbers ++ more → new.steps.items ≡ old.steps.items → (compacted_by table new).payloads ≡ (compacted_by table old).payloads
 payloads_grown table old new more is grown steps_are =
     ap (map (step_payload table new.products.numbers)) steps_are

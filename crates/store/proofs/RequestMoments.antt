@@ -88,7 +88,7 @@ still_live moments store in_step =
 pub own_all : (store : RequestStoreState) (disk : DiskState) → IsRequestStoreInStep store disk → requests_in (reads_of disk) ≡ own_requests (reads_of disk)
 own_all store disk in_step = live_requests (reads_of disk) (in_step_live store.journal disk in_step.journal_in_step in_step.form)
 
--- what is said of those of form 3 is said of all
+-- if form 3 is live at each moment, and its records stay all or the latest of those before, the same holds for all records
 pub all_moments : (old new : Moments) (store : RequestStoreState) → IsRequestStoreInStep store old.now → AtAnyMoment old new (λ image. has_form 3 image ≡ true) → AtAnyMoment old new (λ image. AreAllOrLatest (own_requests (reads_of old.now)) (own_requests image)) → AtAnyMoment old new (λ image. AreAllOrLatest (requests_in (reads_of old.now)) (requests_in image))
 all_moments old new store in_step live moments =
     subst (λ (rs : List RequestRecord). AtAnyMoment old new (λ image. AreAllOrLatest rs (requests_in image))) (sym (own_all store old.now in_step))
@@ -108,7 +108,7 @@ open_opens old new reads (inl goes) = inl goes
 open_opens old new reads (inr later) =
     inr (later.0, later.1, weaker_moments later.0 new (HoldsForms 3 2 reads) (λ image. AreAllOrLatest (requests_in reads) (requests_in image)) (λ image same. inl (requests_held reads image same)) later.2)
 
--- an opening that goes on, whose records are those that reads gave
+-- an opening in two parts: reads after the first give the same records as before it
 module _ (old middle new : Moments) (same : requests_in (reads_of middle.now) ≡ requests_in (reads_of old.now)) (goes_on : AtAnyMoment middle new (λ image. AreAllOrLatest (requests_in (reads_of middle.now)) (requests_in image))) where
   second : AtAnyMoment middle new (λ image. AreAllOrLatest (requests_in (reads_of old.now)) (requests_in image))
   second = subst (λ (rs : List RequestRecord). AtAnyMoment middle new (λ image. AreAllOrLatest rs (requests_in image))) same goes_on

@@ -36,12 +36,12 @@ where_named : (nodes : List Node) (number : ℕ) (file : BuiltFile) (kept : Opti
 where_named nodes number file None h = absurd (none-some file h)
 where_named nodes number file (Some kept) h = if_named (kept.node == number) (record { name = named_by nodes number; artefact = kept.artefact }) file h
 
--- a node as it was built has its name
+-- a file that was built of a node has the name of the node
 built_named : (nodes : List Node) (records : List NodeRecord) (number : ℕ) (file : BuiltFile) → built_node nodes records number ≡ Some file → file.name ≡ named_by nodes number
 unfolding built_node
 built_named nodes records number file h = where_named nodes number file _ h
 
--- The request that stands for a record: its file over the files below it as they were built.
+-- The request that stands for a record: its file over the built files below it.
 pub record HasParts (texts : List (List ℕ)) (nodes : List Node) (records : List NodeRecord) (kept : NodeRecord) (new : Record) : Type 0 where
   pub below : List BuiltFile
   pub each : each_of (map (built_node nodes records) (numbered_node nodes kept.node).deps) ≡ Some below

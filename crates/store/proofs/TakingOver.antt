@@ -23,7 +23,7 @@ pub in_step_form : (journal : JournalState) (disk : DiskState) (form : ℕ) → 
 in_step_form journal disk form in_step is = subst (λ (f : ℕ). has_form f (reads_of disk) ≡ true) is (counts_has_form journal.form (reads_of disk) journal.live in_step.counts)
 
 module _ (reads : Image) (opened taken : List (List ℕ)) (none : has_form 3 reads ≡ false) (live : has_form 2 reads ≡ true) (are : payloads 2 reads ≡ opened) (records : requests_among taken ≡ migrated_requests (node_contents_of opened).records) (is : taken ≡ taken_payloads opened) where
-  -- what is taken over stands for what was there
+  -- the payloads that are taken over stand for the records of the image before
   pub before_is : requests_in reads ≡ requests_among taken
   before_is = requests_older reads none live ∙ ap migrated_among are ∙ sym records
 

@@ -11,7 +11,7 @@ use Rattle.base_bytes.proofs.Many.{begins, counted_take, goes_on, is_done, no_co
 use Rattle.store_codec.specs.Forms.{command_bytes}
 use Rattle.store.specs.Words.{first_words}
 
--- So many words were passed.
+-- Some words were read. Reading the other `count - i` words from the bytes that are left completes the reading of all bytes.
 pub record ArePassed (bytes : List ℕ) (count i : ℕ) (left : List ℕ) : Type 0 where
   pub words : List (List ℕ)
   pub so_far : with_prefix words (many_at text_at (count - i) left) ≡ counted_at text_at bytes
@@ -38,7 +38,7 @@ some_word bytes left count i are low e fits = no_command (first_words bytes) (rw
 abbrev TextFits : List ℕ → Type 0
 TextFits text = length text < 2 ^ 32
 
--- what was passed are the words as they are spelled
+-- once all words are read, the bytes are the encoding of these words, followed by the bytes that are left
 pub passed_all : (bytes left : List ℕ) (count i : ℕ) → AreBytes bytes → ArePassed bytes count i left → count ≤ i → bytes ≡ command_bytes (first_words bytes) ++ left
 unfolding command_bytes
 passed_all bytes left count i fits are done =

@@ -38,7 +38,7 @@ pub record AddsRequest (payloads : List (List ℕ)) (names : List FileName) (seg
 abbrev pub asked_draft : Entry → Option ℕ → List ℕ → Option ℕ → List ℕ → RequestDraft
 asked_draft entry source deps known artefact = record { name = entry.name; command = entry.command; source = ref_or source entry.text; deps = deps; artefact = ref_or known artefact }
 
--- The numbers of a text and of an artefact among texts, where they have one, and those that they will have.
+-- The numbers of a text and of an artefact: the present ones, if they are among the texts, and the numbers once both are added.
 pub record AreRefs (texts : List (List ℕ)) (text artefact : List ℕ) (refs : TextRefs) : Type 0 where
   pub source : IsIndexOf texts text refs.source
   pub known : IsIndexOf (with_text texts (ref_or refs.source text)) artefact refs.known

@@ -28,7 +28,7 @@ pub record TakenState : Type 0 where
 abbrev pub AreBorrowedBy : List Entry → List (List ℕ) → Type 0
 AreBorrowedBy files borrowed = (number : ℕ) (other : Entry) → number < length borrowed → slice_index_or borrowed number [] ≡ (slice_index_or files number other).text
 
--- the least room of the lists and tables that a payload adds to: where it isn't 0, one more record fits, which may add two texts
+-- the least room of the lists and tables that a payload adds to; unless it is 0, one more record fits, which may add two texts
 abbrev pub held_room : HeldList → LocatedTable → ℕ
 held_room held table = min held.room (min (text_room table.texts - 1) (min table.products.room (min (vec_capacity table.rows - vec_len table.rows) table.latest.room)))
 
@@ -36,7 +36,7 @@ held_room held table = min held.room (min (text_room table.texts - 1) (min table
 abbrev pub latest_held : List (List ℕ) → FileName → Option RequestRecord
 latest_held payloads name = latest_request name (record_table_of payloads).records
 
--- the latest record of a name is that of a number, or there is none
+-- the latest record of a name has this number; without a number, no record has the name
 abbrev pub IsLatestRow : List RequestRecord → FileName → Option ℕ → Type 0
 IsLatestRow records name None = latest_request name records ≡ None
 IsLatestRow records name (Some number) = (number < length records) × (latest_request name records ≡ slice_get records number)

@@ -125,7 +125,7 @@ abbrev pub TookText : ℕ → Option ℕ → NumbersBelow → NumbersBelow → T
 TookText text (Some found_index) old new = (slice_get old.numbers found_index ≡ Some text) × (new ≡ old)
 TookText text None old new = (¬ Contains old.numbers text) × (new ≡ record { size = old.size; numbers = old.numbers ++ text ∷ [] })
 
--- A product was added, with its artefact where that is new; the steps are as they were.
+-- A product was added, and its artefact if that is new; the steps are unchanged.
 pub record HasTakenProduct (rows : List ProductRow) (product : ℕ) (old new : CompactionPlan) (step : ProductStep) : Type 0 where
   pub product_is : step.product ≡ product
   pub fits : IfSome step.text (λ number. number < 2 ^ 64)
@@ -134,7 +134,7 @@ pub record HasTakenProduct (rows : List ProductRow) (product : ℕ) (old new : C
   pub steps : new.steps.items ≡ old.steps.items
   pub len : new.len ≡ old.len
 
--- The text and the artefact of a record were added where they are new, and so was its product; the steps are as they were.
+-- The text, the artefact and the product of a record were added, each if it is new; the steps are unchanged.
 pub record HasTakenRequest (rows : List ProductRow) (row : RecordRow) (number : ℕ) (old new : CompactionPlan) (step : RequestStep) : Type 0 where
   pub row_is : step.row ≡ number
   pub source_fits : IfSome step.source (λ number. number < 2 ^ 64)

@@ -44,11 +44,11 @@ prepared_of payload addition = record { payload = payload; addition = addition }
 abbrev pub own_requests : Image → List RequestRecord
 own_requests image = requests_among (payloads 3 image)
 
--- The records of an image: those of form 3, or where form 2 alone is live the requests that stand for the records of views that it has.
+-- The records of an image: those of form 3. If form 2 alone is live, they are the requests that stand for its records.
 abbrev pub requests_in : Image → List RequestRecord
 requests_in image = if older_counts 3 2 image then migrated_requests (node_contents_of (payloads 2 image)).records else own_requests image
 
--- the payloads of an image: those of form 3, or where form 2 alone is live those that take the index of its payloads
+-- the payloads of an image: those of form 3, or the payloads that take over those of form 2 if form 2 alone is live
 abbrev pub kept_payloads : Image → List (List ℕ)
 kept_payloads image = if older_counts 3 2 image then taken_payloads (payloads 2 image) else payloads 3 image
 
@@ -109,7 +109,7 @@ after_committing (Err fault) new latest_of = latest_of
 abbrev pub dead_limit : ℕ
 dead_limit = 1048576
 
--- of so many bytes that many are live, and the rest is more than these and more than the limit
+-- of `len` bytes `live` are live; the dead ones are more than these and more than the limit
 pub record HasManyDead (len live : ℕ) : Type 0 where
   pub many : dead_limit < len - live
   pub most : live < len - live
@@ -123,7 +123,7 @@ pub record AsksAt (generation len live : ℕ) : Type 0 where
 abbrev pub closed_length : List (List ℕ) → ℕ
 closed_length payloads = 19 + length (flat_map block payloads)
 
--- the bytes of a side whose payloads take so many, up to the most that can be counted
+-- the length of a side whose blocks have this many bytes, up to the greatest number of 64 bits
 abbrev pub capped_length : ℕ → ℕ
 capped_length blocks = min (2 ^ 64 - 1) (blocks + 19)
 
@@ -131,8 +131,8 @@ capped_length blocks = min (2 ^ 64 - 1) (blocks + 19)
 abbrev pub live_length : List (List ℕ) → ℕ
 live_length payloads = closed_length (compacted_requests (requests_among payloads))
 
--- A store is compacted as it is opened exactly where its dead bytes are more than its live ones and more than the limit,
--- and there is a next generation.
+-- Opening a store compacts it exactly if its dead bytes are more than its live ones and more than the limit, and there is a
+-- next generation.
 abbrev pub AsksCompaction : ℕ → List (List ℕ) → Type 0
 AsksCompaction generation payloads = AsksAt generation (closed_length payloads) (live_length payloads)
 
@@ -140,17 +140,18 @@ AsksCompaction generation payloads = AsksAt generation (closed_length payloads) 
 abbrev pub opened_generation : Image → ℕ
 opened_generation image = option_map_or (λ side. generation_of (image_side side image)) (counting 3 image) 1
 
--- an image whose store is compacted as it is opened
+-- an image whose store is compacted when it is opened
 abbrev pub ImageAsksCompaction : Image → Type 0
 ImageAsksCompaction image = AsksCompaction (opened_generation image) (payloads 3 image)
 
--- An image that opening leaves as it is: a side counts, its last gate is closed, and what it holds asks for no compaction.
+-- An image that opening doesn't change: a side counts, the commit byte after its last payload isn't open, and its payloads ask
+-- for no compaction.
 pub record IsResting (image : Image) : Type 0 where
   pub healthy : IsHealthy 3 image
   pub unasked : ¬ ImageAsksCompaction image
 
--- An image after compaction of some records: its payloads are those that keep the latest of them, which are its records; and
--- none of its bytes is dead, since compaction would keep all of its payloads.
+-- An image after compaction of some records. Its payloads keep the latest of these records, and its records are these latest
+-- ones. None of its bytes is dead, since compaction would keep all of its payloads.
 pub record HasCompactedOver (before : List RequestRecord) (after : Image) : Type 0 where
   pub side : payloads 3 after ≡ compacted_requests before
   pub records : requests_in after ≡ latest_requests before

@@ -30,8 +30,8 @@ node_records payloads contents = map (record_at_location payloads) contents.reco
 abbrev pub request_at : List (List ℕ) → ContentsLocations → ℕ → Option Record
 request_at payloads contents number = row_request (texts_in payloads contents.texts) contents.table.nodes (node_records payloads contents) number
 
--- A record can stand behind others: its parts have their sizes, the files below it have other names than its own and than each
--- other, and each was built by the latest record of its name.
+-- A record can follow these records. Its parts are within their size limits. The files below it have distinct names other than
+-- its own. Each of them was built by the latest record of its name.
 pub record IsNext (records : List Record) (new : Record) : Type 0 where
   pub name : FitsName new.asked.name
   pub command : FitsCommand new.asked.command

@@ -32,7 +32,7 @@ returns-clause-any_moment g c = λ told.
     change_leaves (reads_of old.now) c.args.opened c.in_ok-taken.taken (c.requires.none told) (in_step_form c.args.journal old.now 2 (c.requires.in_step told) c.requires.form) (c.requires.payloads told) c.in_ok-taken.ensures.records c.in_ok-taken.ensures.is
     old (g.D.Disk.moments c.change_form.new.disk) c.args.journal.form c.in_ok-side.side c.requires.form c.in_ok-side.ensures (c.change_form.ensures.any_moment told)
 
--- what is there afterwards
+-- afterwards the image has the payloads that were taken over
 taken_now : (side : SideContent) (taken : List (List ℕ)) (now : Image) → side ≡ record { form = 3; generation = 1; payloads = taken } → payloads side.form now ≡ side.payloads → payloads 3 now ≡ taken
 taken_now side taken now is are = subst (λ (s : SideContent). payloads s.form now ≡ s.payloads) is are
 

@@ -24,7 +24,7 @@ found payloads locations number location low is = get_or-map (record_at_location
 node_is : (nodes : List Node) (number : ℕ) (node : Node) → slice_get nodes number ≡ Some node → numbered_node nodes number ≡ node
 node_is nodes number node is = get_or_from_slice_get nodes number node unnamed_node is
 
--- what is known of the request that stands for the record
+-- the parts of the request that stands for the record
 parts_at : (payloads : List (List ℕ)) (contents : ContentsLocations) (number : ℕ) (location : RecordLocation) → number < length contents.records.locations.items → location ≡ get_or contents.records.locations.items number location → (new : Record) → request_at payloads contents number ≡ Some new
     → HasParts (texts_in payloads contents.texts) contents.table.nodes (node_records payloads contents) (record_at_location payloads location) new
 parts_at payloads contents number location low index_is new is =
