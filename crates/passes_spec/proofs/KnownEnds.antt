@@ -1,4 +1,4 @@
--- What is said of a run that is known to pass is what would be said of it, were it started; and passes stay true.
+-- The recalled end of a run that is known to pass is the end that it would have if it were started; and passes stay true.
 use Rattle.std.proofs.Common.{◌≡◌, ℕ, Bool, true, false, List, [], ◌∷◌, take, drop, map, Option, Some, None, refl, sym, ap, subst, ◌∙◌, inl, inr, codes, if◌then◌else◌}
 use Rattle.std.specs.Prelude.{All}
 use Rattle.std.specs.List.{list_all}
@@ -56,7 +56,7 @@ passed_verdicts : (run : TestRun) (exit : Exit) → is_passed run exit ≡ true 
 passed_verdicts run exit passed =
     all_passed (run_verdicts run exit) (case_names run) (table_each run.cases run.whole exit.code exit.results ∙ sym (counted_map (name_of_case run) (counted_cases run))) passed
 
--- ## The test of a pass tells whether it is of the same
+-- ## The test of a pass decides whether its run, simulator and files are these
 
 same_files : (a b : BuiltFile) → is_same_file a b ≡ true → a ≡ b
 same_files a b t =
@@ -97,7 +97,7 @@ same_lists (x ∷ xs) (y ∷ ys) t =
     let tail : xs ≡ ys = same_lists xs ys parts.1 in
     cc
 
--- a pass that is current asked what would be asked now
+-- a current pass has this run, this simulator and these files
 same_request : (run : TestRun) (simulator : List (List ℕ)) (built : List BuiltFile) (pass : Pass) → is_current run simulator built pass ≡ true →
     (pass.run ≡ run) × (pass.simulator ≡ simulator) × (pass.built ≡ built)
 same_request run simulator built pass t =
@@ -105,7 +105,7 @@ same_request run simulator built pass t =
     let two = and_parts _ _ one.1 in
     (same_runs pass.run run one.0, (pointwise_decides bytes_eq-Decides pass.simulator simulator).0 two.0, same_lists pass.built built two.1)
 
--- compaction changes nothing of what is known
+-- compaction changes no recalled output
 pub still_known : (passes : List Pass) (simulator : List (List ℕ)) (built : List BuiltFile) (run : TestRun) → recalled (last_passes passes) simulator built run ≡ recalled passes simulator built run
 still_known passes simulator built run = ap (output_for run simulator built) (last_of_last_passes run simulator passes)
 
@@ -113,7 +113,7 @@ module _ (answer : Request → Exit) where
   abbrev True : Pass → Type 0
   True pass = IsTruePass answer pass
 
-  -- what is said of the run of a true pass
+  -- the end of the run of a true pass: each case has passed, with the output of the pass
   true_end : (pass : Pass) → True pass → ended_run pass.run (answer (request_of_pass pass)) ≡ passed_run pass.run pass.output
   true_end pass is =
       let exit : Exit = answer (request_of_pass pass) in
@@ -137,12 +137,12 @@ module _ (answer : Request → Exit) where
   known_end run simulator built None holds output given = absurd (let nothing : ⊥ = cc in nothing)
   known_end run simulator built (Some pass) holds output given = current_end run simulator built pass (holds pass refl) (is_current run simulator built pass) refl output given
 
-  -- what is said of a run that is known is what would be said of it, were it started
+  -- a known run would end as recalled if it were started
   pub known : (passes : List Pass) → All True passes → (simulator : List (List ℕ)) (built : List BuiltFile) (run : TestRun) (output : List ℕ) → recalled passes simulator built run ≡ Some output →
       ended_run run (answer (bench_request run simulator built)) ≡ passed_run run output
   known passes all simulator built run output given = known_end run simulator built (last_pass run simulator passes) (λ pass found. All-last True run simulator passes pass all found) output given
 
-  -- ## Ends of those that were left, merged with what is known
+  -- ## Ends of the runs that were left, merged with the ends of the known runs
 
   abbrev end_now : List (List ℕ) → List BuiltFile → TestRun → RunEnd
   end_now simulator built run = ended_run run (answer (bench_request run simulator built))

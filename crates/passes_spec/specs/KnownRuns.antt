@@ -1,4 +1,4 @@
--- Which runs are known to pass, and what is said of all runs where these are not started.
+-- Which runs are known to pass, and the ends of all runs if the known ones are not started.
 use Rattle.std.specs.Prelude.{ℕ, Bool, ◌&&◌, true, false, List, [], ◌∷◌, map, drop, Option, Some, None}
 use Rattle.std.specs.Str.{bytes_eq}
 use Rattle.std.specs.Cmp.Lexicographic.{pointwise}
@@ -31,7 +31,7 @@ abbrev pub output_if : Bool → Pass → Option (List ℕ)
 output_if true pass = Some pass.output
 output_if false pass = None
 
--- the output of a pass, where there is one and it is current
+-- the output of a pass that is current; no output without such a pass
 abbrev pub output_for : TestRun → List (List ℕ) → List BuiltFile → Option Pass → Option (List ℕ)
 output_for run simulator built None = None
 output_for run simulator built (Some pass) = output_if (is_current run simulator built pass) pass
@@ -46,17 +46,18 @@ recalled passes simulator built run = output_for run simulator built (last_pass 
 abbrev pub passed_run : TestRun → List ℕ → RunEnd
 passed_run run output = record { names = case_names run; verdicts = map (λ name. Passed) (case_names run); output = output }
 
--- the runs that are left after a run: with this run, where it is not known
+-- the runs that are left: this run, unless it is known, and then the rest
 abbrev pub left_if : Option (List ℕ) → TestRun → List TestRun → List TestRun
 left_if None run rest = run ∷ rest
 left_if (Some output) run rest = rest
 
--- the runs that are left, in order: those that are not known
+-- the runs that are left: all that aren't known, in order
 unfoldable pub runs_left : (TestRun → Option (List ℕ)) → List TestRun → List TestRun
 runs_left known [] = []
 runs_left known (run ∷ runs) = left_if (known run) run (runs_left known runs)
 
--- the end of a run: of a known one what is known, of another the first of the ends of those that were left
+-- The end of a run: a known run has passed with its output, and an unknown run has the first of these ends. An unknown run
+-- without an end is unstarted.
 abbrev pub end_or : Option (List ℕ) → TestRun → List RunEnd → RunEnd
 end_or (Some output) run ends = passed_run run output
 end_or None run [] = unstarted_run run
@@ -67,7 +68,7 @@ abbrev pub ends_after : Option (List ℕ) → List RunEnd → List RunEnd
 ends_after (Some output) ends = ends
 ends_after None ends = drop 1 ends
 
--- the ends of all runs, in order: those of the runs that were left, merged with what is known
+-- the ends of all runs, in order: the ends of the runs that were left, merged with the ends of the known runs
 unfoldable pub merged_ends : (TestRun → Option (List ℕ)) → List TestRun → List RunEnd → List RunEnd
 merged_ends known [] ends = []
 merged_ends known (run ∷ runs) ends = end_or (known run) run ends ∷ merged_ends known runs (ends_after (known run) ends)

@@ -6,7 +6,7 @@ use Rattle.passes_spec.specs.Passes.{Pass, IsAllOrLast}
 abbrev pub IsBase : List Pass → Bool → List Pass → Type 0
 IsBase before clean base = IsAllOrLast before base ⊎ ((clean ≡ true) × (base ≡ []))
 
--- The passes of an image are those that a run goes on from, and then first ones of those that it records.
+-- The passes of an image: the passes that a run goes on from, followed by the first of the passes that it records.
 pub record HasPasses (before : List Pass) (clean : Bool) (recorded now : List Pass) : Type 0 where
   pub base : List Pass
   pub from : IsBase before clean base
