@@ -49,7 +49,7 @@ module _ (s : Work) (events : List Event) (latest_of : FileName → Option Recor
       ∙ ap (option_map (λ (kept : Record). record { name = entry.name; artefact = kept.artefact })) (knows position entry artefact at is)
       ∙ sym (ap (λ (o : Option Entry). built_file o (artefact_after s events position)) at ∙ ap (built_file (Some entry)) is)
 
-  -- all files are borrowed as they were built
+  -- if all files are made, the borrowed files and artefacts are the ones that were built
   pub borrowed_are : (status_there : (position : ℕ) → position < length s.graph → slice_get (statuses_of s events) position ≡ Some (status_at s (progress_of s events).ends position)) → list_all is_made (statuses_of s events) ≡ true →
       filter_map (borrowed_at latest_of s.graph) (below (length s.graph)) ≡ built_by s events
   borrowed_are status_there all =

@@ -1,4 +1,4 @@
--- Files that were gathered stay what the store lends of them, while none of them gets another record.
+-- The bytes of gathered files stay the same while the latest records of these files do.
 use Rattle.std.proofs.Common.{◌≡◌, ℕ, ◌+◌, ◌<◌, List, [], ◌∷◌, ◌++◌, length, map, get_or, Option, Some, refl, sym, ap, ◌∙◌, arith}
 use Rattle.std.specs.Prelude.{All}
 use Rattle.std.specs.Option.{option_map, option_map_or, option_and_then}

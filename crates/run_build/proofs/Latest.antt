@@ -19,7 +19,7 @@ pub latest_after-same : (xs : List Record) (before other : FileName → Option R
 latest_after-same [] before other same name = same name
 latest_after-same (x ∷ xs) before other same name = latest_after-same xs (with_record x before) (with_record x other) (λ n. ap (λ (o : Option Record). cond (is_of n x) (Some x) o) (same n)) name
 
--- what is known after two steps
+-- adding two lists of records in turn gives the same latest records as adding both at once
 pub latest_then : (xs ys : List Record) (before middle now : FileName → Option Record) → ((name : FileName) → middle name ≡ latest_after xs before name) → ((name : FileName) → now name ≡ latest_after ys middle name)
     → (name : FileName) → now name ≡ latest_after (xs ++ ys) before name
 latest_then xs ys before middle now first second name = second name ∙ latest_after-same ys middle (latest_after xs before) first name ∙ sym (latest_after-append xs ys before name)
@@ -30,7 +30,7 @@ module _ (graph : List Entry) (position : ℕ) (entry : Entry) (at : slice_get g
   latest_here below artefact before =
       cond-true (is_of entry.name (record_at graph position below artefact)) (Some (record_at graph position below artefact)) (before entry.name) (is_of_own graph position entry at below artefact)
 
--- the record of another file leaves the latest record of a name as it is
+-- the record of another file doesn't change the latest record of a name
 pub latest_elsewhere : (graph : List Entry) → IsGraph graph → (i j : ℕ) (f : Entry) → slice_get graph j ≡ Some f → (i ≡ j → ⊥) → (below : List BuiltFile) (artefact : List ℕ) (before : FileName → Option Record)
     → with_record (record_at graph i below artefact) before f.name ≡ before f.name
 latest_elsewhere graph is i j f at_j differ below artefact before =

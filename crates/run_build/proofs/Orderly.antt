@@ -1,5 +1,5 @@
--- What lawful moves keep true of the children: those that run were started once, aren't made, and all that they depend
--- on is made.
+-- What lawful moves keep true of running children: each was started once, its file isn't made, and all dependencies of
+-- that file are made.
 use Rattle.std.proofs.Common.{◌≡◌, ℕ, ◌<◌, Bool, true, false, not, ◌||◌, ◌&&◌, eqb, ltb, List, [], ◌∷◌, ◌++◌, length, get_or, Option, Some, None, refl, sym, ap, subst, ◌∙◌, arith, inl, inr}
 use Rattle.std.specs.Prelude.{All}
 use Rattle.std.specs.List.{list_all, list_any}
@@ -55,7 +55,7 @@ none_there schedule position untaken children all =
     All-weaker (λ child. is_taken schedule child.position ≡ true) (λ child. child.position ≡ position → ⊥)
     (λ child taken same. not_both (sym taken ∙ ap (is_taken schedule) same ∙ untaken)) children all
 
--- one more child is apart from those that run for other files
+-- one more child keeps all children apart if the others run for other files
 apart_with : (children : List RunningChild) (child : RunningChild) → AreApart children → All (λ other. other.position ≡ child.position → ⊥) children → AreApart (children ++ child ∷ [])
 apart_with [] child apart others = (All-nil (λ other. other.position ≡ child.position → ⊥), tt)
 apart_with (first ∷ children) child apart others = (
@@ -63,7 +63,7 @@ apart_with (first ∷ children) child apart others = (
   apart_with children child apart.1 (All-tail (λ other. other.position ≡ child.position → ⊥) first children others),
 )
 
--- what holds of all that run holds of those that are left
+-- a property of all running children holds of the rest without a ticket
 pub All-without : (P : RunningChild → Type 0) (ticket : ℕ) (children : List RunningChild) → All P children → All P (without_child ticket children)
 All-without P ticket [] all = all
 All-without P ticket (child ∷ children) all =
@@ -82,7 +82,7 @@ apart_without ticket (child ∷ children) apart =
           (All-without (λ other. other.position ≡ child.position → ⊥) ticket children apart.0, apart_without ticket children apart.1)
     ]
 
--- the child of a ticket is one of those that run
+-- a property of all running children holds of the child of a ticket
 pub found_child : (P : RunningChild → Type 0) (ticket position : ℕ) (children : List RunningChild) → position_of ticket children ≡ Some position → All P children → (child : RunningChild) × (child.position ≡ position) × P child
 found_child P ticket position [] is all = absurd (none-some position is)
 found_child P ticket position (child ∷ children) is all =
@@ -91,7 +91,7 @@ found_child P ticket position (child ∷ children) is all =
       | inr f ↦ found_child P ticket position children (sym (cond-false (eqb child.ticket ticket) (Some child.position) (position_of ticket children) f) ∙ is) (All-tail P child children all)
     ]
 
--- those that are left run for other files
+-- the children that remain without a ticket run for other files
 others_elsewhere : (ticket position : ℕ) (children : List RunningChild) → AreApart children → position_of ticket children ≡ Some position → All (λ other. other.position ≡ position → ⊥) (without_child ticket children)
 others_elsewhere ticket position [] apart is = absurd (none-some position is)
 others_elsewhere ticket position (child ∷ children) apart is =

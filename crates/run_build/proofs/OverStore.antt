@@ -136,7 +136,7 @@ durable_if_known records_of graph latest_of disk knows position recorded image i
     subst (λ (i : Image). IsRecorded (λ name. latest name (records_of i)) graph position) (sym (knows.durable image is))
     (subst (λ (l : FileName → Option Record). IsRecorded l graph position) (fun_ext knows.held) recorded)
 
--- the latest records of a store that was opened are those that a build goes by
+-- the latest records of a store that was opened are the ones that a build works from
 base_latest : (records_of : Image → List Record) (clean : Bool) (disk : DiskState) (records : List Record) (name : FileName) → IsBase records_of clean disk records → latest name records ≡ latest_over records_of clean disk name
 unfolding latest
 base_latest records_of true disk records name none = ap (latest name) none
@@ -178,7 +178,7 @@ no_test_since journal = ap test_part (since_itself journal)
 pub none_tested : {s : Work} (old new events : List Event) → new ≡ old ++ events → Lawful s events → test_part (since old new) ≡ []
 none_tested {s} old new events journal lawful = ap test_part (ap (since old) journal ∙ since-added old events) ∙ (build_parts s events lawful).1
 
--- a store that was emptied holds what was committed since, and nothing else, where all of it is acknowledged
+-- an emptied store holds exactly the records that were committed since, if all commits are acknowledged
 emptied_in_end : (records_of : Image → List Record) (clean : Bool) (first last : DiskState) (base more : List Record) (result : Result (List FileStatus) RunFault) (broken : Bool) (acknowledged : ℕ) → IsBase records_of clean first base → OnOk result (broken ≡ false)
     → OnTrue (is_all_committed (fault_of result) broken) (acknowledged ≡ length more) → EachImage (λ image. HasFirst acknowledged (most_committed broken acknowledged) base more (records_of image)) last
     → OnOk result (clean ≡ true → EachImage (λ image. records_of image ≡ more) last)

@@ -32,7 +32,7 @@ record_of_good graph end good = cond-true (eqb end.exit.code 0) (record_at graph
 pub no_record : (graph : List Entry) (end : End) → eqb end.exit.code 0 ≡ false → commit_of graph end ≡ []
 no_record graph end bad = cond-false (eqb end.exit.code 0) (record_at graph end.position end.below end.exit.output ∷ []) [] bad
 
--- what is committed of another file leaves the latest record of a name as it is
+-- the commit of another file doesn't change the latest record of a name
 pub committed_elsewhere : (graph : List Entry) → IsGraph graph → (end : End) (k : ℕ) (entry : Entry) → slice_get graph k ≡ Some entry → (end.position ≡ k → ⊥) → (before : FileName → Option Record) → latest_after (commit_of graph end) before entry.name ≡ before entry.name
 committed_elsewhere graph is end k entry at other before = by (eqb end.exit.code 0) refl
   where
@@ -42,7 +42,7 @@ committed_elsewhere graph is end k entry at other before = by (eqb end.exit.code
         ∙ latest_elsewhere graph is end.position k entry at other end.below end.exit.output before
     by false code = ap (λ (l : List Record). latest_after l before entry.name) (no_record graph end code)
 
--- where no child of a file ended well, what is committed leaves its latest record as it is
+-- if no child of a file ended well, commits don't change the latest record of this file
 pub uncommitted : (graph : List Entry) → IsGraph graph → (k : ℕ) (entry : Entry) → slice_get graph k ≡ Some entry → (ends : List End) (before : FileName → Option Record) → output_at (map child_of_end ends) k ≡ None → latest_after (commits_of graph ends) before entry.name ≡ before entry.name
 unfolding output_at
 uncommitted graph is k entry at [] before none = refl
@@ -82,7 +82,7 @@ printed_of P k (end ∷ ends) output all is =
       and_both true b h = (refl, h)
       and_both false b h = absurd (false≢true h)
 
--- what a child was started over stays, and so does that no record was current over it
+-- after more ends a child is still due over the same files, and no record was current over them
 pub due_more : (work : Work) (ends more : List End) (position : ℕ) (below : List BuiltFile) → IsDueOver work ends position below → IsDueOver work (ends ++ more) position below
 due_more work ends more position below due =
     let f : ℕ → Option (List ℕ) = artefact_so_far work ends in
@@ -113,7 +113,7 @@ module _ (work : Work) (first : FileName → Option Record) where
   abbrev IsEndDue : List End → End → Type 0
   IsEndDue ends end = IsDueOver work ends end.position end.below
 
-  -- at first there is none
+  -- at first no child has been started
   pub records_at_first : HasRecords work first empty_progress
   records_at_first = record { runs = All-nil (IsRunDue []); ends = All-nil (IsEndDue []); known = All-nil (IsKnown graph first []) }
 

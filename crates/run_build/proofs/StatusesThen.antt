@@ -46,7 +46,7 @@ statuses_set f g n position status lt is others =
 abbrev pub status_of_exit : Exit → FileStatus
 status_of_exit exit = cond (eqb exit.code 0) Compiled (Refused exit.code exit.output)
 
--- nothing is recorded and nothing printed where there is no artefact
+-- a file without an artefact has neither a recorded nor a printed one
 pub none_of_else : (kept printed : Option (List ℕ)) → or_else kept printed ≡ None → (kept ≡ None) × (printed ≡ None)
 none_of_else None printed h = (refl, h)
 none_of_else (Some artefact) printed h = let nothing : ⊥ = cc in absurd nothing

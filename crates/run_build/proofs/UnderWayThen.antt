@@ -102,7 +102,7 @@ from_step : (position : ℕ) (next : Option ℕ) (idle : Bool) → Start positio
 from_step position None idle h = absurd (no_start position idle h)
 from_step position (Some other) idle h = let same : position ≡ other = cc in ap (λ (p : ℕ). Some p) (sym same)
 
--- a machine starts what is to be started now
+-- if the next step of a machine is a start, the schedule starts that file now
 pub started_at : (workload : Workload) (schedule : SchedulerState) (position : ℕ) → Start position ≡ step_at workload schedule → start_now workload schedule ≡ Some position
 unfolding step_at
 started_at workload schedule position is = from_step position (start_now workload schedule) (eqb (length schedule.running) 0) is
@@ -130,13 +130,13 @@ module _ (graph : List Entry) (from : Origin) (events : List Event) (acknowledge
   knows : all ≡ true → (name : FileName) → state.latest_of name ≡ latest_after (commits_of graph progress.ends) from.latest_of name
   knows on = knows_all s events all from.latest_of state.latest_of acknowledged is.committed on
 
-  -- of all that a file depends on there is an artefact where all of it is made
+  -- if all dependencies of a file are made, each has an artefact
   made_deps : (position : ℕ) → list_all (is_made_so_far (workload_of s) schedule) (deps_at graph position) ≡ true → All (λ dep. is_some (artefact_so_far s progress.ends dep) ≡ true) (deps_at graph position)
   made_deps position made =
       All-weaker (λ dep. is_made_so_far (workload_of s) schedule dep ≡ true) (λ dep. is_some (artefact_so_far s progress.ends dep) ≡ true)
       (λ dep h. sym (made_so_far s progress dep) ∙ h) (deps_at graph position) (All-from_test (is_made_so_far (workload_of s) schedule) (deps_at graph position) made)
 
-  -- and a record of what is asked of it
+  -- and each has a record of what would be asked for it now
   pub recorded_deps : all ≡ true → (position : ℕ) → position < length graph → list_all (is_made_so_far (workload_of s) schedule) (deps_at graph position) ≡ true → All (IsRecorded state.latest_of graph) (deps_at graph position)
   recorded_deps on position lt made k d l =
       made_recorded graph from.latest_of from.slots from.keep_going progress state.latest_of is.is_graph is.recorded (knows on) (get_or (deps_at graph position) k d) (omega (arith, ordered position k d l, lt)) (made_deps position made k d l)
@@ -290,7 +290,7 @@ module _ (graph : List Entry) (from : Origin) (events : List Event) (acknowledge
   waits true = refl
   waits false = refl
 
-  -- what it knows is what became of each file, where one that wasn't checked neither runs nor is made
+  -- the statuses that it knows are the statuses by its events, if no unchecked file runs or is made
   pub statuses_over : ((at : ℕ) → at < length graph → is_checked state.machine at ≡ false → (is_taken schedule at ≡ false) × (is_made_so_far (workload_of s) schedule at ≡ false)) → state.statuses ≡ statuses_of s events
   statuses_over idle = is.has_status ∙ map-below_same (known_status s progress.ends state.machine) (status_at s progress.ends) (length graph) each
     where
@@ -406,7 +406,7 @@ module _ (graph : List Entry) (from : Origin) (events : List Event) (acknowledge
     abbrev pub end : End
     end = record { position = at; request = run.0.request; below = run.0.below; exit = exit }
 
-    -- are those that the store has
+    -- are the ones that the store has
     pub built_now : all ≡ true → run.0.below ≡ map (latest_built state.latest_of graph) (deps_at graph at)
     unfolding has_all
     built_now on =
@@ -415,7 +415,7 @@ module _ (graph : List Entry) (from : Origin) (events : List Event) (acknowledge
         due.below_is ∙ ap (files_below s progress.ends) run.2
         ∙ files_now graph from.latest_of from.slots from.keep_going progress state.latest_of is.is_graph is.recorded (knows on) at entry.0 entry.1 (made_deps at free)
 
-    -- and what its file has isn't what is asked for it now
+    -- and the record of its file isn't of what would be asked for it now
     pub ended_unrecorded : all ≡ true → IsRecorded state.latest_of graph at → ⊥
     unfolding has_all
     ended_unrecorded on recorded =
@@ -433,7 +433,7 @@ module _ (graph : List Entry) (from : Origin) (events : List Event) (acknowledge
         (deps_latest graph from.latest_of from.slots from.keep_going progress state.latest_of is.is_graph is.recorded (knows on) at entry.0 entry.1 (made_deps at free)) recorded in
         true≢false (sym current ∙ ap is_some stale)
 
-    -- so that it is none of the first files where these are all recorded, and their records stay
+    -- so its file isn't among the first files if all of these are recorded, and their records stay
     pub ended_keeps : all ≡ true → (count : ℕ) → AreRecorded state.latest_of graph count → (files : List BuiltFile) (artefact : List ℕ) → KeepsFirst graph count state.latest_of (with_record (record_at graph at files artefact) state.latest_of)
     ended_keeps on count recorded files artefact position entry lt found =
         latest_elsewhere graph is.is_graph at position entry found (λ same. ended_unrecorded on (subst (IsRecorded state.latest_of graph) (sym same) (recorded position lt))) files artefact state.latest_of

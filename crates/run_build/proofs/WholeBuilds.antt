@@ -225,7 +225,7 @@ known_has s ends machine position made = elim (cases_Bool (is_checked machine po
       (false≢true (sym (waits_unmade s.keep_going) ∙ ap is_made (sym (cond-false (is_checked machine position) (status_at s ends position) (waiting_status s.keep_going) new)) ∙ made))
 ]
 
--- each file that is fresh or compiled has a record of what is asked of it
+-- each file that is fresh or compiled has a record of what would be asked for it now
 pub statuses_recorded : (graph : List Entry) (from : Origin) (events : List Event) (acknowledged : ℕ) (state : BuildState) → IsUnderWay graph from events acknowledged state → state.first_fault ≡ None →
     (position : ℕ) (status : FileStatus) → slice_get state.statuses position ≡ Some status → is_made status ≡ true → IsRecorded state.latest_of graph position
 statuses_recorded graph from events acknowledged state is none position status at made =

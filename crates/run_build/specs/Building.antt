@@ -36,15 +36,16 @@ pub record OpensStore {K : Type 0} (records_of : Image → List Record) (clean :
   pub opening : OnOk result (IsOpening records_of clean old.now (added_since old new))
   pub base : OnOk result (IsBase records_of clean old.now (records_of (reads_of new.now)))
 
--- A build that keeps the records of its store and commits none writes nothing, where reads gave an image that opening leaves
--- as it is.
+-- A build that keeps the records of its store and commits none writes nothing, if opening doesn't change the image that
+-- reads gave.
 abbrev pub RestsOver : {T E : Type 0} → (records_of : Image → List Record) → (is_resting : Image → Type 0) → Order → Result T E → (old new : Moments) → List Event → Type 0
 RestsOver records_of is_resting order result old new events = order.clean ≡ false → is_resting (reads_of old.now) → commits (work_over records_of order old.now) events ≡ [] → Rests result old new
 
--- The build is that of the records that reads of the disk gave before it, or of none where the store is emptied. Its moments
--- go through the phases of a store to which its commits are added, so many of which are acknowledged: all of them where
--- neither the disk nor memory failed. At its end each file that is made has a record of what would be asked for it now in
--- whatever a stop can leave, and where the store is emptied that has no record but those of its commits.
+-- A build over the records that reads of the disk gave before it, or over no records if the store is emptied. Its moments
+-- go through the phases of a store to which its commits are added. The first `acknowledged` commits are acknowledged: all of
+-- them unless the disk or memory failed. If the build worked, each made file has a record of what would be asked for it
+-- now, whatever a stop can leave at the end. If the store was emptied too, it then has exactly the records of the
+-- commits.
 pub record BuildsOver (records_of : Image → List Record) (answer : Request → Exit) (order : Order) (result : Result (List FileStatus) RunFault) (disk_failed : Bool) (old new : Moments) (events : List Event) : Type 0 where
   pub graph_form : IsGraph order.graph
   pub lawful : Lawful (work_over records_of order old.now) events

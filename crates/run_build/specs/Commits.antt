@@ -14,17 +14,17 @@ abbrev pub latest_after : List Record → (FileName → Option Record) → FileN
 latest_after [] latest_of = latest_of
 latest_after (first ∷ rest) latest_of = latest_after rest (with_record first latest_of)
 
--- Of what is to be committed the first so many are acknowledged, all of them where nothing kept the build from it; the
--- store knows them, and each child was started over them.
+-- The first `acknowledged` commits are acknowledged: all of them if nothing kept the build from it. The store knows these
+-- records. Each child was started once all commits before it were acknowledged.
 pub record Acknowledges (setting : Work) (events : List Event) (all : Bool) (before now : FileName → Option Record) (acknowledged : ℕ) : Type 0 where
   pub few : acknowledged ≤ length (commits setting events)
   pub whole : OnTrue all (acknowledged ≡ length (commits setting events))
   pub waits : Waits setting acknowledged events
   pub latest : (name : FileName) → now name ≡ latest_after (take acknowledged (commits setting events)) before name
 
--- What the disk holds of more records, of which the first so many are acknowledged: reads give these after those from
--- before while the store is usable, and at any moment a stop can leave some first ones. Where there are none, nothing is
--- done to the disk.
+-- What the disk holds of new records, if the first `acknowledged` ones are acknowledged. While the store is usable,
+-- reads give the old records and then the acknowledged ones. At any moment a stop leaves the old records with a prefix of
+-- the new ones. Without new records the disk doesn't change.
 pub record HoldsFirst (acknowledged : ℕ) (broken : Bool) (more : List Record) (records_of : Image → List Record) (old new : Moments) : Type 0 where
   pub reads : OnFalse broken (records_of (reads_of new.now) ≡ records_of (reads_of old.now) ++ take acknowledged more)
   pub images : CommitsFirst acknowledged broken (records_of (reads_of old.now)) more records_of old new

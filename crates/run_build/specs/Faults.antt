@@ -44,7 +44,7 @@ before_loss events = take_while (λ event. not (is_gone event)) events
 abbrev pub given_before_loss : Work → List Event → ℕ
 given_before_loss setting events = length (commits setting (before_loss events))
 
--- a child is lost, and all that was given before is acknowledged
+-- a child is lost, and each commit from before the first lost child is acknowledged
 pub record IsLossFirst (setting : Work) (events : List Event) (acknowledged : ℕ) : Type 0 where
   pub lost : list_any is_gone events ≡ true
   pub before : given_before_loss setting events ≤ acknowledged

@@ -45,9 +45,10 @@ pub record Ending : Type 0 where
   pub fault : Option RunFault
   pub broken : Bool
 
--- What a build did. Its events are what the journal has since it was old. They are lawful after a fault too: each start is
--- of the least file that may be started, with its request, and while a slot is free. Of what its children gave the first
--- so many records are acknowledged. The fault that it answers came first. Where it ended by itself its events are whole.
+-- What a build did. Its events are the ones that the journal gained. They are lawful after a fault too: each start is of
+-- the first file that may be started, has its request, and comes while a slot is free. The first `acknowledged` records
+-- from its children are acknowledged. The fault that it answers came first. If the build ended by itself, its events are
+-- whole.
 pub record BuildRan (tells told : Type 0) (answer : Request → Exit) (records_of : Image → List Record) (setting : Work) (old new : BuildObjects) (ending : Ending) (Says : List Event → Type 0) : Type 0 where
   pub events : List Event
   pub journal : tells → new.journal ≡ old.journal ++ events
@@ -68,7 +69,7 @@ pub record BuildRan (tells told : Type 0) (answer : Request → Exit) (records_o
   pub committed : Acknowledges setting events (is_all_committed ending.fault ending.broken) old.latest_of new.latest_of acknowledged
   -- which fault is answered
   pub comes_first : ComesFirst ending.fault setting events acknowledged ending.broken
-  -- where all is committed, the latest record of each file that is made has what is asked for it over what was made below
-  -- it, with its artefact
+  -- if everything is committed, the latest record of each made file has its request over the files that were made below
+  -- it, and its artefact
   pub recorded : OnTrue (is_all_committed ending.fault ending.broken) ((position : ℕ) (entry : Entry) (artefact : List ℕ) → slice_get setting.graph position ≡ Some entry → artefact_after setting events position ≡ Some artefact → new.latest_of entry.name ≡ Some (record_at setting.graph position (files_below setting (progress_of setting events).ends position) artefact))
   pub images : told → HoldsFirst acknowledged ending.broken (commits setting events) records_of old.moments new.moments

@@ -27,7 +27,7 @@ borrowed_request latest_of graph position = option_map (λ entry. compile_reques
 abbrev pub AreRecorded : (FileName → Option Record) → List Entry → ℕ → Type 0
 AreRecorded latest_of graph count = (position : ℕ) → position < count → IsRecorded latest_of graph position
 
--- the latest records of the files before a position stay as they were
+-- the latest records of the files before a position don't change
 abbrev pub KeepsFirst : List Entry → ℕ → (FileName → Option Record) → (FileName → Option Record) → Type 0
 KeepsFirst graph count old new = (position : ℕ) (entry : Entry) → position < count → slice_get graph position ≡ Some entry → new entry.name ≡ old entry.name
 

@@ -20,7 +20,8 @@ first_status keep_going Fresh = status.Fresh
 first_status keep_going Stale = waiting_status keep_going
 first_status keep_going Later = waiting_status keep_going
 
--- what a build knows of a file: what became of it where it was checked, and else that it waits
+-- the status of a file as a build knows it: by the ended children if the file was checked, and else that of a waiting
+-- file
 abbrev pub known_status : Work → List End → BuildScheduler → ℕ → FileStatus
 known_status work ends machine position = if is_checked machine position then status_at work ends position else waiting_status work.keep_going
 

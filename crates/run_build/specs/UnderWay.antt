@@ -61,7 +61,7 @@ pub record IsDueOver (work : Work) (ends : List End) (position : ℕ) (below : L
   pub below_is : below ≡ files_below work ends position
   pub stale : work.current position below ≡ None
 
--- What a child gave that ended well is the latest record of its file, once all that is to be committed is.
+-- If a child ended well, its output is the latest record of its file once everything is committed.
 abbrev pub IsKnown : List Entry → (FileName → Option Record) → List End → End → Type 0
 IsKnown graph first ends end =
     (entry : Entry) → slice_get graph end.position ≡ Some entry → (end.exit.code == 0) ≡ true → latest_after (commits_of graph ends) first entry.name ≡ Some (record_at graph end.position end.below end.exit.output)
@@ -73,9 +73,10 @@ pub record HasRecords (work : Work) (first : FileName → Option Record) (progre
   pub ends : All (λ end. IsDueOver work progress.ends end.position end.below) progress.ends
   pub known : All (IsKnown work.graph first progress.ends) progress.ends
 
--- What holds after these events, whatever objects tell: they are lawful moves with their requests, the machine is that of
--- what has happened and has stopped once a fault is noted, the statuses are what is known of it, the first so many commits are
--- acknowledged, the fault that is noted came first, and while none is noted no end was waited for too early and none is lost.
+-- What holds after these events, whatever objects tell. The events are lawful moves with their requests. The machine is
+-- in step with them, and has stopped once a fault is noted. The statuses are the ones that a build knows by then. The
+-- first `acknowledged` commits are acknowledged, and the noted fault came first. While no fault is noted, the store is
+-- usable, no end was waited for too early and no child is lost.
 pub record IsUnderWay (graph : List Entry) (from : Origin) (events : List Event) (acknowledged : ℕ) (state : BuildState) : Type 0 where
   pub is_graph : IsGraph graph
   pub moves : LawfulMoves (workload_of (work_from graph from)) empty_schedule (moves_of (work_from graph from) events)

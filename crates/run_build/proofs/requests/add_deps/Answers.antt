@@ -1,4 +1,4 @@
--- Answers to the goals of `add_deps`: the first files are among those that the file depends on.
+-- Answers to the goals of `add_deps`: where the dependencies of the file are the first files, these have records.
 use Rattle.std.proofs.Common.{ℕ, List, length, get_or, ap, subst, ◌∙◌}
 use Rattle.base.proofs.Below.{get_or-below}
 use Rattle.outside.specs.Records.{IsRecorded}

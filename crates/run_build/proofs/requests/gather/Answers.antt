@@ -1,4 +1,4 @@
--- Answers to the goals of `gather`: where memory is wanting, what is left there has nothing.
+-- Answers to the goals of `gather`: if memory runs out, no files are left gathered.
 use Rattle.std.proofs.Common.{sym, subst}
 use Rattle.run_build.specs.Requests.{IsGathered}
 use Rattle.run_build.proofs.requests.gather.Goals as goal
