@@ -57,7 +57,7 @@ all_left P ticket (child ∷ running) all =
           (All-cons P child (without_child ticket running) (All-head P child running all) (all_left P ticket running (All-tail P child running all)))
     ]
 
--- a child that runs is one of those that were started
+-- a running child was started, with its request in both journals
 found_in : (old before : List Event) (ticket : ℕ) (running : List RunningChild) → All (WasStarted old before) running → list_any (λ child. eqb child.ticket ticket) running ≡ true →
     (request : Request) × (started_with ticket before ≡ Some request) × (started_with ticket (old ++ before) ≡ Some request)
 found_in old before ticket [] all h = absurd (false≢true h)

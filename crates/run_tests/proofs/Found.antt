@@ -1,4 +1,4 @@
--- What became of the runs, event after event.
+-- The ends of runs, event after event.
 use Rattle.std.proofs.Common.{◌≡◌, ℕ, zero, suc, Bool, true, false, eqb, cond, List, [], ◌∷◌, ◌++◌, map, Option, Some, None, refl, sym, ap, ◌∙◌, arith}
 use Rattle.std.proofs.Math.ListN.{set}
 use Rattle.std.specs.Prelude.{slice_get}
@@ -25,7 +25,7 @@ ends_same f g (run ∷ runs) h =
     ap (λ (o : Option Exit). run_end run o ∷ run_ends (λ k. f (suc k)) runs) (h 0)
     ∙ ap (λ (l : List RunEnd). run_end run (g 0) ∷ l) (ends_same (λ k. f (suc k)) (λ k. g (suc k)) runs (λ k. h (suc k)))
 
--- the run at a position has an exit now, and any other is as it was
+-- the run at a position has an exit now, and no other run changes
 ends_set : (f g : ℕ → Option Exit) (runs : List TestRun) (at : ℕ) (run : TestRun) (exit : Exit) → slice_get runs at ≡ Some run → g at ≡ Some exit → ((k : ℕ) → (at ≡ k → ⊥) → g k ≡ f k)
     → set (run_ends f runs) at (ended_run run exit) ≡ run_ends g runs
 ends_set f g [] at run exit there here others = let nothing : ⊥ = cc in absurd nothing
@@ -75,7 +75,7 @@ module _ (setting : TestSetting) (events : List Event) where
   pub found_started : (ticket : ℕ) (request : Request) → test_ends setting (events ++ Started ticket request ∷ []) ≡ test_ends setting events
   found_started ticket request = ap ends_by (exits_then (Started ticket request) ∙ append-nil progress.ends)
 
-  -- what is kept of a run that has ended
+  -- if a run ends, the ends so far get its end at its position
   pub found_ended : (found : List RunEnd) (ticket at : ℕ) (run : TestRun) (exit : Exit) → found ≡ test_ends setting events → position_of ticket progress.schedule.running ≡ Some at → slice_get setting.plan.runs at ≡ Some run
       → set found at (ended_run run exit) ≡ test_ends setting (events ++ Ended ticket exit ∷ [])
   found_ended found ticket at run exit is there run_is =
@@ -88,7 +88,7 @@ module _ (setting : TestSetting) (events : List Event) where
       (λ k other. exit_more progress.ends one k ∙ cond-false (eqb at k) (Some exit) (run_exit progress.ends k) (ne_eqb at k other))
       ∙ ap ends_by (sym exits)
 
--- whether the run of a ticket has passed, by what is kept of it
+-- whether the run of a ticket has passed, by the verdicts of its end
 pub passed_is : (setting : TestSetting) (there : Option ℕ) (at : ℕ) (run : TestRun) (exit : Exit) (end : RunEnd) (ok : Bool) → there ≡ Some at → slice_get setting.plan.runs at ≡ Some run → end ≡ ended_run run exit
     → ok ≡ list_all is_passed_verdict end.verdicts → passed_at setting there exit ≡ ok
 passed_is setting there at run exit end ok position run_is end_is ok_is =

@@ -54,7 +54,7 @@ tests_prefix setting xs ys lawful = record {
   tickets = tickets_prefix [] xs ys lawful.tickets;
 }
 
--- so are none
+-- an empty list of events is lawful
 pub no_tests : (setting : TestSetting) → LawfulTests setting []
 unfolding LawfulMoves test_moves AreTestsRequested EachAfter
 no_tests setting = record { moves = tt; requests = tt; tickets = tt }

@@ -1,4 +1,4 @@
--- Of tests that ended by themselves each run has ended, and its exit is the answer to what is asked for it.
+-- If tests ended by themselves, each run has ended, and its exit is the answer to its request.
 use Rattle.std.proofs.Common.{◌≡◌, ℕ, ◌<◌, ◌==◌, ◌&&◌, ◌||◌, Bool, true, false, not, ◌⊎◌, cond, List, [], ◌∷◌, ◌++◌, length, Option, Some, None, refl, sym, ap, subst, ◌∙◌, arith, inl, inr}
 use Rattle.std.specs.Prelude.{All, map, slice_get, suc, unwrap_or, is_none}
 use Rattle.std.specs.Option.{option_map, option_and_then, option_or}
@@ -31,11 +31,11 @@ runs_at running position = list_any (λ child. child.position == position) runni
 abbrev has_exit : List TestExit → ℕ → Bool
 has_exit ends position = list_any (λ end. end.position == position) ends
 
--- a child runs that was started with what is asked for its run
+-- a child runs that was started with the request of its run
 abbrev IsUnderWay : TestSetting → List Event → RunningChild → Type 0
 IsUnderWay setting before child = (request : Request) × (started_with child.ticket before ≡ Some request) × (test_request_at setting child.position ≡ Some request)
 
--- a run has ended with the answer to what is asked for it
+-- a run has ended with the answer to its request
 abbrev pub IsAnswerTo : (Request → Exit) → TestSetting → TestExit → Type 0
 IsAnswerTo answer setting end = (request : Request) × (test_request_at setting end.position ≡ Some request) × (end.exit ≡ answer request)
 
@@ -47,7 +47,7 @@ record AreInStep (answer : Request → Exit) (setting : TestSetting) (before : L
   ended : All (λ end. has_exit progress.ends end.position ≡ true) progress.schedule.ended
   goes_on : progress.schedule.halted ≡ false
 
--- what became of runs that each have an exit
+-- the ends of runs that each have an exit
 ends_by_run : (exit_of : ℕ → Option Exit) (exit_by : TestRun → Exit) (runs : List TestRun) → ((k : ℕ) (run : TestRun) → slice_get runs k ≡ Some run → exit_of k ≡ Some (exit_by run)) → run_ends exit_of runs ≡ map (λ run. ended_run run (exit_by run)) runs
 ends_by_run exit_of exit_by [] each = refl
 ends_by_run exit_of exit_by (run ∷ runs) each =
@@ -206,7 +206,7 @@ module _ (answer : Request → Exit) (setting : TestSetting) (going : setting.pl
       let parts = or_parts (end.position == k) (has_exit ends k) none in
       ap (λ (o : Option Exit). option_or o (cond (end.position == k) (Some end.exit) None)) (no_exit k ends parts.1) ∙ cond-false (end.position == k) (Some end.exit) None parts.0
 
-  -- the exit of a run that has ended is the answer to what is asked for it
+  -- the exit of a run that has ended is the answer to its request
   exit_is : (k : ℕ) (request : Request) → test_request_at setting k ≡ Some request → (ends : List TestExit) → All (IsAnswerTo answer setting) ends → has_exit ends k ≡ true → run_exit ends k ≡ Some (answer request)
   unfolding run_exit
   exit_is k request asks [] all has = absurd (false≢true has)
@@ -271,11 +271,11 @@ module _ (answer : Request → Exit) (setting : TestSetting) (going : setting.pl
       | inr made ↦ exit_of_ended k progress.ends progress.schedule.ended at_end.1.ended made
     ]
 
-    -- the exit of each run is the answer to what is asked for it
+    -- the exit of each run is the answer to its request
     pub exits : (k : ℕ) (request : Request) → k < length setting.plan.runs → test_request_at setting k ≡ Some request → run_exit progress.ends k ≡ Some (answer request)
     exits k request lt asks = exit_is k request asks progress.ends at_end.1.ends (all_ended k lt)
 
-    -- so that what became of the runs depends neither on the order of their ends nor on how many ran at once
+    -- so the ends of the runs depend neither on their order in time nor on how many ran at once
     pub ends_steady : test_ends setting events ≡ steady_ends answer setting.plan setting.built
     ends_steady =
         ends_by_run (run_exit progress.ends) (λ run. answer (bench_request run setting.plan.simulator setting.built)) setting.plan.runs

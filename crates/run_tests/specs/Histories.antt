@@ -27,15 +27,16 @@ pub data HistoryStep : Type 0 where
   Ran : ProgramRun → HistoryStep
   Stopped : ProgramRun → Stop → HistoryStep
 
--- The tests of a run whose build worked on this, had these events, and was to be followed by tests of a plan: none where the
--- order's files aren't a graph or a file isn't made; and lawful runs over exactly what was built. What simulators answered is free.
+-- The tests of a program run, after a build with this work and these events, for a plan of tests. There are tests only if
+-- the order's files are a graph and each file is made. They are lawful runs over exactly the files that were built. Any
+-- answers of simulators are allowed.
 pub record HasTested (order : Order) (plan : TestPlan) (work : Work) (compiled tests : List Event) : Type 0 where
   pub graph : (tests ≡ [] → ⊥) → IsGraph order.graph
   pub made : (tests ≡ [] → ⊥) → list_all is_made (statuses_of work compiled) ≡ true
   pub lawful : LawfulTests (setting_after order plan work compiled) tests
 
--- What the tests of a run did over the disk that its build found. There are none where words and sources give no order or
--- no plan.
+-- What the tests of a run did over the disk that its build found. If words and sources give no order or no plan, no test
+-- runs.
 abbrev pub TestsStep : (records_of : Image → List Record) → Option Order → Option TestPlan → (compiled tests : List Event) → DiskState → Type 0
 TestsStep records_of None plan compiled tests first = tests ≡ []
 TestsStep records_of (Some order) None compiled tests first = tests ≡ []

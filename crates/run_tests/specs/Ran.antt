@@ -9,10 +9,10 @@ use Rattle.run_spec.specs.Moves.{empty_schedule, LawfulMoves, GreedyMoves, IsFin
 use Rattle.run_spec.specs.ChildJournal.{EachAfter, HasFreshTicket, Answered, is_gone}
 use Rattle.run_spec.specs.TestJournal.{TestSetting, test_workload, test_moves, empty_tests, progress_of_tests, AreTestsRequested, LawfulTests, IsWholeTests}
 
--- What runs of tests did. Their events are what the journal has since it was old. They are lawful after a fault too: each
--- start is of the first run that wasn't started, with its request, and while a slot is free; and each end is the answer to
--- what its own child was started with. Where the runs ended by
--- themselves no end was waited for too early, none is lost, and nothing is left to do.
+-- What runs of tests did. Their events are the ones that the journal gained. They are lawful after a fault too: each
+-- start is of the first run that wasn't started, has its request, and comes while a slot is free. Each end is the answer
+-- to its own child's request. If the runs ended by themselves, no end was waited for too early, no child is lost, and
+-- nothing is left to do.
 pub record TestsRan (tells : Type 0) (answer : Request → Exit) (setting : TestSetting) (old new : List Event) (ended : Bool) (Says : List Event → Type 0) : Type 0 where
   pub events : List Event
   pub journal : tells → new ≡ old ++ events

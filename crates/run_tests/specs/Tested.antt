@@ -19,7 +19,8 @@ use Rattle.run_spec.specs.TestJournal.{TestPlan, TestSetting, LawfulTests, IsWho
 use Rattle.run_tests.specs.Results.{test_ends}
 use Rattle.run_tests.specs.declared.build_and_test.Tested.{Tested}
 
--- what is said of tests: nothing where a file isn't made; else they are whole, and what is said became of them
+-- The reported end of tests: none if a file isn't made. Otherwise the events of tests are whole, and each run is reported
+-- with its end by these events.
 abbrev pub SaysTests : TestSetting → (made : Bool) → Option TestEnd → List Event → Type 0
 SaysTests setting made None events = made ≡ false
 SaysTests setting made (Some end) events = (made ≡ true) × IsWholeTests setting events × (end.runs ≡ test_ends setting events)
@@ -38,10 +39,11 @@ pub record RanBuilt (tells : Type 0) (answer : Request → Exit) (setting : Test
 abbrev pub setting_after : Order → TestPlan → Work → List Event → TestSetting
 setting_after order plan work compiled = record { plan = plan; built = built_by work compiled; slots = order.slots }
 
--- A build, and then its tests. First come the events of compilers, which are those of a build of the order, and then those of
--- tests. These are lawful runs of the plan over exactly what was built, on every answer, and each end is the answer to its
--- start. None is started where a file isn't made, nor after a fault of the build, which is the answer then. Where there is no
--- fault, what is said are the statuses of the build, and, where each file is made, what became of all runs.
+-- A build, and then its tests. First come the events of compilers, which are the events of a build of the order, and then
+-- the events of tests. The tests are lawful runs of the plan over exactly the files that were built, on every answer.
+-- Each end is the answer to its start. No test is started if a file isn't made, nor after a fault of the build, which is
+-- the answer then. If the answer isn't a fault, it has the statuses of the build. It also has the ends of all runs if
+-- each file is made.
 pub record TestsOver (records_of : Image → List Record) (answer : Request → Exit) (order : Order) (plan : TestPlan) (result : Result Tested RunFault) (disk_failed : Bool) (old new : Moments) (events : List Event) : Type 0 where
   pub compiled : List Event
   pub tests : List Event

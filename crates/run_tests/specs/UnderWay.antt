@@ -1,4 +1,4 @@
--- Runs of tests that are under way: what has happened, the row, and what became of the runs so far.
+-- Runs of tests that are under way: the events so far, the scheduler, and the ends of the runs so far.
 use Rattle.std.specs.Prelude.{◌≡◌, ℕ, Bool, false, List, ◌++◌, IfSome}
 use Rattle.std.specs.List.{list_any}
 use Rattle.base.specs.declared.child.Request.{Request}
@@ -17,12 +17,13 @@ use Rattle.run_scheduler.specs.declared.test_scheduler.TestScheduler.{TestSchedu
 use Rattle.run_scheduler.specs.Rows.{IsSchedulerOf}
 use Rattle.run_tests.specs.Results.{test_ends}
 
--- runs with their simulator over files that were built, so many at once
+-- runs with their simulator over files that were built, at most `slots` of them at once
 abbrev pub tests_with : List TestRun → List (List ℕ) → List BuiltFile → (slots : ℕ) → (fail_fast : Bool) → TestSetting
 tests_with runs simulator built slots fail_fast = record { plan = record { runs = runs; simulator = simulator; fail_fast = fail_fast }; built = built; slots = slots }
 
--- What holds after these events: they are lawful moves with their requests, the row is that of what has happened, and
--- while no fault is noted no end was waited for too early, none is lost, and what was found is what became of the runs.
+-- What holds after these events. They are lawful moves with their requests, and the scheduler is in step with them. While
+-- no fault is noted, no end was waited for too early, no child is lost, and the ends that were found are the ends of the
+-- runs.
 pub record AreUnderWay (setting : TestSetting) (events : List Event) (scheduler : TestScheduler) (found : List RunEnd) (first_fault : Bool) : Type 0 where
   pub moves : LawfulMoves (test_workload setting) empty_schedule (test_moves setting empty_tests events)
   pub requests : AreTestsRequested setting empty_tests events

@@ -1,4 +1,4 @@
--- The children stay as they are told.
+-- The loop doesn't change the state of the children.
 use Rattle.std.proofs.Common.{◌≡◌}
 use Rattle.run_tests.proofs.announcing.announce_long_runs.Given as goal
 

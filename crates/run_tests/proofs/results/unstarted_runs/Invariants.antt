@@ -1,4 +1,4 @@
--- So far what became of the runs up to the index.
+-- The runs up to the index are listed as unstarted.
 use Rattle.std.proofs.Common.{◌≡◌, map, take}
 use Rattle.testbench_runs.specs.Verdicts.{unstarted_run}
 use Rattle.run_tests.proofs.results.unstarted_runs.Given as goal
