@@ -20,7 +20,7 @@ after_other a b x other = and_right (eqb a 239) (eqb b 191 && (eqb x 190 || eqb 
 after_another : (a b x : ℕ) → (a ≡ 239 → ⊥) → ends_no_character a b x ≡ false
 after_another a b x other = and_left (eqb a 239) (eqb b 191 && (eqb x 190 || eqb x 191)) (ne_eqb a 239 other)
 
--- such a byte of 128 and more is as it is
+-- such a byte from 128 on stands for itself
 plain_byte : (a b x : ℕ) → 128 ≤ x → ends_no_character a b x ≡ false → value_byte a b x ≡ x ∷ []
 unfolding value_byte xml_byte
 plain_byte a b x big plain =
@@ -28,7 +28,7 @@ plain_byte a b x big plain =
     ∙ cond-false (eqb x 38) _ _ (ne_eqb x 38 (λ e. omega arith)) ∙ cond-false (eqb x 60) _ _ (ne_eqb x 60 (λ e. omega arith)) ∙ cond-false (eqb x 62) _ _ (ne_eqb x 62 (λ e. omega arith))
     ∙ cond-false (eqb x 34) _ _ (ne_eqb x 34 (λ e. omega arith)) ∙ cond-false (eqb x 39) _ _ (ne_eqb x 39 (λ e. omega arith))
 
--- and so is the first byte of a character of several
+-- and the first byte of a multi-byte character stands for itself
 first_byte : (a b x : ℕ) → 192 ≤ x → value_byte a b x ≡ x ∷ []
 first_byte a b x big = plain_byte a b x (omega arith) (other_last a b x (λ e. omega arith) (λ e. omega arith))
 

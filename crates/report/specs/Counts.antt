@@ -37,6 +37,6 @@ has_run_passed run = list_all is_passed_verdict run.verdicts
 abbrev pub have_all_passed : List RunEnd → Bool
 have_all_passed runs = list_all has_run_passed runs
 
--- what runs of tests answer: done where all cases have passed, or where the words say that failed tests are no matter
+-- the outcome of runs of tests: done if all cases have passed, or if the option `exit_0` is set
 abbrev pub tests_outcome : List RunEnd → Bool → Outcome
 tests_outcome runs exit_0 = if exit_0 || have_all_passed runs then outcome.Done else outcome.TestsFailed

@@ -91,6 +91,6 @@ run_elements run end = case_elements run (counted_cases run) end.verdicts
 abbrev pub all_elements : List TestRun → List RunEnd → List ℕ
 all_elements runs ends = flat_map (λ both. run_elements both.0 both.1) (zip runs ends)
 
--- what became of runs, as JUnit XML
+-- the ends of runs as JUnit XML
 abbrev pub junit : List TestRun → List RunEnd → List ℕ
 junit runs ends = xml_line ++ (suite_line (tally (all_verdicts ends)) ++ (all_elements runs ends ++ last_line))

@@ -12,11 +12,12 @@ use Rattle.report.specs.Junit.{junit}
 use Rattle.report.specs.declared.said.RunSaid.{RunSaid}
 use Rattle.report.specs.declared.said.TestWords.{TestWords}
 
--- what is said of a build that no tests followed: the text of its files after that of warnings, and its answer
+-- the report of a build without tests: its outcome, and the warnings with the text of its files after them
 abbrev pub said_of_build : (warnings : List ℕ) → List Entry → List FileStatus → RunSaid
 said_of_build warnings graph statuses = record { outcome = build_outcome graph statuses; text = warnings ++ build_text shown_bytes graph statuses; report = None }
 
--- what is said of a build and of its tests: the text of tests comes behind that of the build, and the answer is theirs
+-- The report of a build and of its tests. The text of the tests follows that of the build, and the outcome is that of the
+-- tests.
 abbrev pub said_of_tests : (warnings : List ℕ) → List Entry → List FileStatus → List TestRun → TestWords → TestEnd → RunSaid
 said_of_tests warnings graph statuses runs words end = record {
   outcome = tests_outcome end.runs words.exit_0;
@@ -24,7 +25,7 @@ said_of_tests warnings graph statuses runs words end = record {
   report = if words.report then Some (junit runs end.runs) else None;
 }
 
--- what is said of a run
+-- the report of a run of the program, with tests if they have an end
 abbrev pub run_said : (warnings : List ℕ) → List Entry → List FileStatus → List TestRun → TestWords → Option TestEnd → RunSaid
 run_said warnings graph statuses runs words None = said_of_build warnings graph statuses
 run_said warnings graph statuses runs words (Some end) = said_of_tests warnings graph statuses runs words end

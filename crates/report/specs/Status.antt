@@ -3,8 +3,8 @@ use Rattle.std.specs.Prelude.{ℕ, min}
 use Rattle.base_outcomes.specs.declared.outcome.Outcome.{Outcome}
 use Rattle.base_outcomes.specs.declared.outcome.Outcome.TheVariants.{Done, TestsFailed, Refused, BadWords, OutsideFault, NoMemory, OverLimit, Child}
 
--- The exit status: 0 done, 1 a refusal (the compiler's too) or failed tests, 2 words that are no command line, 3 a fault
--- outside the program, 4 out of memory, 5 over a limit. A child ends with its own code, at most 255.
+-- The exit status: 0 done, 1 a refusal (the compiler's too) or failed tests, 2 an invalid command line, 3 a fault outside
+-- the program, 4 out of memory, 5 over a limit. A child ends with its own code, at most 255.
 abbrev pub exit_status : Outcome → ℕ
 exit_status Done = 0
 exit_status TestsFailed = 1

@@ -29,7 +29,7 @@ case_lines names verdicts = flat_map (λ both. case_line both.0 both.1) (zip nam
 abbrev pub shows_output : Bool → Bool → RunEnd → Bool
 shows_output verbose quiet run = not quiet && (verbose || not (has_run_passed run))
 
--- what is said of a run: what it printed, where that is shown, and the lines of its cases
+-- the text of a run: its output, if that is shown, and the lines of its cases
 abbrev pub run_text : Bool → Bool → RunEnd → List ℕ
 run_text verbose quiet run = (if shows_output verbose quiet run then shown SHOWN_LIMIT run.output else []) ++ case_lines run.names run.verdicts
 
@@ -54,10 +54,10 @@ summary counts all = summary_line ++ (count_line Passed counts.passed counts.tot
 unfoldable pub no_tests : List ℕ
 no_tests = codes "No tests were run!" ++ 10 ∷ []
 
--- what is said of some runs
+-- the text of runs that have cases: the text of each run, and the summary
 abbrev pub runs_text : Bool → Bool → List RunEnd → List ℕ
 runs_text verbose quiet runs = flat_map (run_text verbose quiet) runs ++ summary (tally (all_verdicts runs)) (have_all_passed runs)
 
--- what is said of runs, which may have no case
+-- the text of runs, which may have no case
 abbrev pub test_text : Bool → Bool → List RunEnd → List ℕ
 test_text verbose quiet runs = if (tally (all_verdicts runs)).total == 0 then no_tests else runs_text verbose quiet runs

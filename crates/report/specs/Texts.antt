@@ -35,7 +35,7 @@ shown limit output = take limit output ++ line_end (take limit output)
 abbrev pub shown_bytes : ℕ
 shown_bytes = 4096
 
--- the line of a file, up to the word that says what became of it
+-- the line of a file, up to the word for its status
 unfoldable pub compiling : Entry → List ℕ
 compiling entry = codes "Compiling into " ++ (entry.name.library ++ (codes ": " ++ entry.name.path))
 
@@ -77,7 +77,7 @@ compile_passed = codes "Compile passed" ++ 10 ∷ []
 unfoldable pub not_needed : List ℕ
 not_needed = codes "Re-compile not needed" ++ 10 ∷ []
 
--- the last line: what became of the whole build
+-- the last line: the result of the whole build
 abbrev pub build_line : List FileStatus → List ℕ
 build_line statuses = if list_any is_refused statuses then compile_failed else if list_any is_compiled statuses then compile_passed else not_needed
 
@@ -97,7 +97,7 @@ bad_line = codes "vunit.csv: bad line "
 unfoldable pub no_project : List ℕ
 no_project = codes "no vunit.toml and no vunit.csv"
 
--- a file, as it is named after the program's name
+-- the library and the path of a file, for a message
 unfoldable pub file_words : FileName → List ℕ
 file_words file = file.library ++ (codes ", " ++ file.path)
 
@@ -133,7 +133,7 @@ nothing_matches pattern = codes "nothing matches " ++ pattern
 unfoldable pub not_in_project : List ℕ
 not_in_project = codes " isn't in the project"
 
--- what is wrong with a project file
+-- the message for a fault in a project file
 abbrev pub fault_words : ProjectFault → List ℕ
 fault_words fault.NotToml = not_toml
 fault_words (fault.MissingKey key) = no_key key
@@ -157,7 +157,7 @@ unclosed_extended = codes ": unclosed extended identifier at "
 unfoldable pub unclosed_comment : List ℕ
 unclosed_comment = codes ": unclosed comment at "
 
--- what is wrong with the tokens of a text, and at which offset
+-- the message for a lexical fault in a text, with its offset
 abbrev pub lex_words : LexFault → List ℕ
 lex_words (lex.UnclosedString at) = unclosed_string ++ decimal at
 lex_words (lex.UnclosedExtended at) = unclosed_extended ++ decimal at
@@ -175,7 +175,7 @@ no_unit = codes ": no design unit at "
 unfoldable pub not_ended : List ℕ
 not_ended = codes ": design unit not ended at "
 
--- what is wrong with the design units of a text, and at which offset
+-- the message for a fault in the design units of a text, with its offset
 abbrev pub unit_words : UnitFault → List ℕ
 unit_words (unit.NotUnit at) = no_unit ++ decimal at
 unit_words (unit.NotEnded at) = not_ended ++ decimal at
@@ -224,7 +224,7 @@ bad_test_name bench = codes "bench " ++ (bench ++ codes " has a bad test name")
 unfoldable pub test_twice : List ℕ → List ℕ
 test_twice name = codes "test " ++ (name ++ stands_twice)
 
--- what is wrong with the benches of a project
+-- the message for a fault in the benches of a project
 abbrev pub test_words : TestFault → List ℕ
 test_words (test.TwoArchitectures bench) = two_architectures bench
 test_words (test.NoArchitecture bench) = lacks_architecture bench

@@ -1,4 +1,4 @@
--- What the loop of `put_runs` keeps: what is said of the runs so far is put.
+-- What the loop of `put_runs` keeps: the texts of the runs so far are put.
 use Rattle.std.proofs.Common.{◌≡◌, ◌++◌, take}
 use Rattle.std.specs.List.{flat_map}
 use Rattle.report.specs.TestTexts.{run_text}
