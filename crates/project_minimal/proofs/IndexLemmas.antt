@@ -141,7 +141,7 @@ files_void said index are = record {
 pub named_as : (library its_library name its_name : List ℕ) (key : UnitKey) → key ≡ unit_key its_library its_name → its_library ≡ library → its_name ≡ name → ◌≡◌ {A = Option UnitKey} (Some (unit_key library name)) (Some key)
 named_as library its_library name its_name key is l n = ap (λ (k : UnitKey). Some k) (sym (is ∙ same_parts its_library library its_name name l n))
 
--- a file is added with all that is said of it
+-- if all units of a file are added to an index of the files before it, the index holds this file too
 pub file_more : (sources : Sources) (said : NeedSources) (n : ℕ) (file : ProjectFile) (outline : FileOutline) (count : ℕ) (a b : Index) → AreSources sources → AreNeeds sources said
     → slice_get sources.project.now.files n ≡ Some file → slice_get sources.outlines.now n ≡ Some outline → HoldsFiles said n a → AddsAll file.name.library outline.units n count a b → HoldsFiles said (n + 1) b
 file_more sources said n file outline count a b are needs f o holds adds =

@@ -34,7 +34,7 @@ module _ (graph : List Entry) (kept : List ℕ) (is : IsPart graph kept) where
       let within : i < length (part graph kept) = omega (arith, length-part graph kept is, low) in
       ap (λ (e : Entry). take i (part graph kept) ++ e ∷ []) (sym here) ∙ sym (take_more (part graph kept) i no_entry within)
 
-  -- the files at later kept positions are as they were
+  -- the files at later kept positions don't change
   pub left_entries : (left : List Entry) (i : ℕ) → ((k : ℕ) → i ≤ k → k < length kept → get_or left (get_or kept k 0) no_entry ≡ get_or graph (get_or kept k 0) no_entry)
       → (k : ℕ) → i + 1 ≤ k → k < length kept → get_or (set left (get_or kept i 0) no_entry) (get_or kept k 0) no_entry ≡ get_or graph (get_or kept k 0) no_entry
   left_entries left i before k later within =

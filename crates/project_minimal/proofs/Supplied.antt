@@ -1,4 +1,4 @@
--- The units that an index of names supplies are those that are needed.
+-- The units that an index of names supplies are the units that are needed.
 use Rattle.std.proofs.Common.{◌≡◌, ◌<◌, ℕ, zero, suc, ◌≤◌, nat_lt, Bool, false, ◌&&◌, ◌||◌, Option, Some, None, List, [], ◌∷◌, length, map, get_or, inl, inr, refl, sym, ◌∙◌, ap, subst, arith}
 use Rattle.std.specs.Prelude.{slice_get}
 use Rattle.std.specs.List.{All, list_any}
@@ -72,7 +72,7 @@ no_units : (said : NeedSources) (at : ℕ) → length said.files ≤ at → unit
 unfolding units_at
 no_units said at past = ap (λ (file : Option ProjectFile). units_of file (slice_get said.texts at) (slice_get said.scans at)) (slice_get_past said.files at past)
 
--- what is said of the units of the files before the last one's end is said of all
+-- whether a file has a unit of a name: the bound by the number of files excludes nothing
 supplied_all : (naming : Naming) (said : NeedSources) (name : UnitKey) (at : ℕ) → is_supplied naming said (length said.files) name at ≡ list_any (λ unit. is_called name (naming unit.scope.library unit.scope.unit)) (units_at said at)
 supplied_all naming said name at = elim (cases_lt at (length said.files)) [
   | inl low ↦ ap (λ (b : Bool). b && list_any (λ unit. is_called name (naming unit.scope.library unit.scope.unit)) (units_at said at)) (lt-ltb at (length said.files) low)
@@ -241,7 +241,7 @@ module _ (tables : Tables) (said : NeedSources) (are : AreTables tables) (known 
       ap (λ (units : List NeedUnit). length units) (units_there said at_file file text the_scan f t scan_there)
       ∙ (length-map the_scan.units (need_unit file.name.library text the_scan) ∙ ap (λ (units : List DesignUnit). length units) (sym (outline_is text t).units))
 
-  -- what a unit wants, by what is kept of it
+  -- the files that a unit wants, by its outline and its unresolved references
   pub unit_wants : (number : ℕ) (file : ProjectFile) (text : List ℕ) (design : DesignUnit) (unresolved : UnresolvedRefs) (tokens : List Token) (unit : NeedUnit) → slice_get tables.sources.project.now.files at_file ≡ Some file → slice_get tables.sources.texts.now at_file ≡ Some text
       → slice_get outline.units number ≡ Some design → slice_get outline.unresolved number ≡ Some unresolved → tokens ≡ unresolved.components → slice_get (units_at said at_file) number ≡ Some unit
       → (at : ℕ) → wants_of said unit at ≡ (has_part tables.index.now design.kind file.name.library design.name at || binds_one tables (record { file = at_file; unit = number }) text tokens at)
@@ -263,6 +263,6 @@ pub needs_are : (said : NeedSources) (edges : Option (List (List ℕ))) (user us
 unfolding needs
 needs_are said edges user used is = ap (λ (e : Option (List (List ℕ))). uses e user used || list_any (λ unit. wants_of said unit used) (units_at said user)) is
 
--- what is kept of the components of a unit can be read
+-- the tokens of a unit's components lie in the text
 pub components_lie : (text : List ℕ) (outline : FileOutline) (number : ℕ) (unresolved : UnresolvedRefs) → OutlineLiesIn text outline → slice_get outline.unresolved number ≡ Some unresolved → All (LiesIn text) unresolved.components
 components_lie text outline number unresolved lies got = (subst (UnresolvedRefsLieIn text) (get_or_from_slice_get outline.unresolved number unresolved unresolved got) (lies.unresolved number unresolved (slice_get_within outline.unresolved number unresolved got))).components

@@ -1,6 +1,6 @@
--- The files that tests need: the least set that has the files of their entities, and of each of its files those that this
--- one needs itself (IEEE Std 1076-2008, clauses 3.3, 4.8, 7.3.3 and 13.5; that bodies and architectures come with what they
--- belong to, and which components count, is this project's choice).
+-- The files that tests need: the least set that has the files of their entities and is closed under need. If a file is in
+-- it, so is each file that this one needs itself (IEEE Std 1076-2008, clauses 3.3, 4.8, 7.3.3 and 13.5). It is this
+-- project's choice that bodies and architectures come with what they belong to, and which components count.
 use Rattle.std.specs.Prelude.{◌≡◌, ℕ, zero, suc, ◌<◌, ◌==◌, nat_lt, Bool, true, false, ◌&&◌, ◌||◌, Option, Some, None, List, [], length, filter, map, slice_get, slice_index}
 use Rattle.std.specs.List.{list_any}
 use Rattle.std.specs.Str.{bytes_eq}
@@ -28,7 +28,7 @@ pub record NeedSources : Type 0 where
   pub scans : List Scan
   pub edges : Option (List (List ℕ))
 
--- the files of a project with their texts, their scans and, where it isn't listed, what each depends on
+-- the files of a project with their texts, their scans and, unless the project is listed, the dependencies of each file
 abbrev pub said_of : Project → List (List ℕ) → List Scan → Option (List (List ℕ)) → NeedSources
 said_of project texts scans edges = record { files = project.files; texts = texts; scans = scans; edges = edges }
 
@@ -109,7 +109,7 @@ is_tested tests file = list_any (λ bench. bench.file == file) tests
 abbrev pub grown : NeedSources → (ℕ → Bool) → ℕ → Bool
 grown sources set file = set file || list_any (λ user. set user && needs sources user file) (below (length sources.files))
 
--- the set after so many steps
+-- the set after a number of steps
 unfoldable pub needed_after : NeedSources → List Bench → ℕ → ℕ → Bool
 needed_after sources tests zero = is_tested tests
 needed_after sources tests (suc steps) = grown sources (needed_after sources tests steps)
@@ -124,7 +124,7 @@ is_needed sources tests file = needed_after sources tests (length sources.files)
 abbrev pub needed_ranks : NeedSources → List Bench → List ℕ → List ℕ
 needed_ranks sources tests order = filter (λ rank. is_needed sources tests (slice_index order rank)) (below (length order))
 
--- a set of files has those of some tests, and of each of its files those that this one needs
+-- a set of files has the files of some tests, and each file that one of its own files needs
 pub record IsNeedy (sources : NeedSources) (tests : List Bench) (set : ℕ → Bool) : Type 0 where
   pub tested : (file : ℕ) → file < length sources.files → is_tested tests file ≡ true → set file ≡ true
   pub grown : (user used : ℕ) → user < length sources.files → used < length sources.files → set user ≡ true → needs sources user used ≡ true → set used ≡ true

@@ -1,4 +1,4 @@
--- What a unit of a project needs, as it is looked up.
+-- How the program looks up what a unit of a project needs.
 use Rattle.std.specs.Prelude.{◌≡◌, ℕ, ◌<◌, Bool, true, false, ◌&&◌, ◌||◌, List, [], length, slice_index_or}
 use Rattle.std.specs.List.{list_any}
 use Rattle.std.specs.Str.{bytes_eq}
@@ -29,7 +29,7 @@ pub record AreTables (tables : Tables) : Type 0 where
   pub fit : FitAll (count_of tables) tables.index.now
   pub starts : length tables.sets.now.starts ≡ count_of tables
 
--- what is said of the units of the files, the tables say
+-- the tables hold the sources, the names of units and the visible libraries of these files
 pub record IsKnown (tables : Tables) (said : NeedSources) : Type 0 where
   pub needs : AreNeeds tables.sources said
   pub index : HoldsFiles said (length said.files) tables.index.now

@@ -1,4 +1,4 @@
--- What is left in the place of a file that is taken.
+-- The entry that replaces a file that was taken out of a graph.
 use Rattle.std.specs.Prelude.{[]}
 use Rattle.base.specs.declared.graph.Entry.{Entry}
 

@@ -1,4 +1,5 @@
--- The files of a project with their texts and outlines, as the program holds them, and what is known of their units.
+-- The files of a project with their texts and outlines, as the program holds them, and the definition's sources that they
+-- stand for.
 use Rattle.std.specs.Prelude.{◌≡◌, ◌≤◌, length}
 use Rattle.base.specs.declared.limits.TheConstants.{FILE_LIMIT}
 use Rattle.std.specs.List.{All}

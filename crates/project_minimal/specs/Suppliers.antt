@@ -37,7 +37,7 @@ supplies suppliers name at = has_file (files_of suppliers name) at
 abbrev pub IsPaired : Suppliers → Type 0
 IsPaired suppliers = length suppliers.files.items ≡ length suppliers.names
 
--- each name has a list of files, which are of a project of so many
+-- each name has a list of files, whose positions are all below a count
 pub record FitFiles (count : ℕ) (suppliers : Suppliers) : Type 0 where
   pub paired : IsPaired suppliers
   pub within : All (λ files. All (λ file. file < count) files) suppliers.files.items
@@ -100,7 +100,7 @@ pub record AddsAll (library : List ℕ) (units : List DesignUnit) (file count : 
   pub bodies : Adds body_name library units file count old.bodies new.bodies
   pub entities : Adds entity_name library units file count old.entities new.entities
 
--- all positions of files are of a project of so many
+-- all positions of files in an index are below a count
 pub record FitAll (count : ℕ) (index : Index) : Type 0 where
   pub architectures : FitFiles count index.architectures
   pub bodies : FitFiles count index.bodies

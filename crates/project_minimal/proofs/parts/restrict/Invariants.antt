@@ -1,4 +1,4 @@
--- The kept files so far, and those that are left.
+-- The kept files so far, and the files at later kept positions, which are unchanged.
 use Rattle.std.proofs.Common.{◌≡◌, ℕ, ◌<◌, ◌≤◌, length, get_or, take}
 use Rattle.base.specs.View.{part}
 use Rattle.project_minimal.specs.Nothing.{no_entry}
