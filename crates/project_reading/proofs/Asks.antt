@@ -12,7 +12,7 @@ use Rattle.project_reading.specs.declared.stops.ReadStop.{ReadStop}
 pub all_first : (paths old new : List (List ℕ)) → new ≡ old ++ paths → AsksFirst paths old new
 all_first paths old new all = record { first = paths; rest = []; split = sym (append-nil paths); asked = all }
 
--- more paths follow those that were asked for
+-- if the first of some paths were asked for, they are also the first when more paths follow
 pub first_of_more : (paths more old new : List (List ℕ)) → AsksFirst paths old new → AsksFirst (paths ++ more) old new
 first_of_more paths more old new h = record { first = h.first; rest = h.rest ++ more; split = ap (λ (ps : List (List ℕ)). ps ++ more) h.split ∙ append_assoc h.first h.rest more; asked = h.asked }
 

@@ -1,4 +1,5 @@
--- The strings that an architecture calls lie one after the other in its text, so together they are no longer than it.
+-- The strings that an architecture calls lie one after the other in its text, so their total length is at most that of
+-- the text.
 use Rattle.std.proofs.Common.{◌≡◌, ℕ, zero, suc, ◌+◌, ◌-◌, ◌<◌, ◌≤◌, Bool, not, ◌&&◌, ◌==◌, cond, List, [], ◌∷◌, ◌++◌, length, map, take, drop, inl, inr, refl, sym, ap, subst, ◌∙◌, arith}
 use Rattle.std.specs.Prelude.{slice_index_or, slice_range, sum_by, filter}
 use Rattle.std.specs.List.{range_with_len}
@@ -33,13 +34,13 @@ take_most zero xs = omega arith
 take_most (suc n) [] = omega arith
 take_most (suc n) (x ∷ xs) = let rest = take_most n xs in omega (arith, rest)
 
--- a part of a text is no longer than from its start to its end
+-- the length of a part of a text is at most its end less its start
 part_length : (text : List ℕ) (from to : ℕ) → length (slice_range text from to) ≤ to - from
 part_length text from to = take_most (to - from) (drop from text)
 
 -- ## Tokens follow one another
 
--- each begins where the one before has ended, or behind, and all end within so many bytes
+-- each token begins at or after the end of the one before, and all end within `size` bytes
 abbrev Ordered : ℕ → ℕ → List Token → Type 0
 Ordered at size [] = at ≤ size
 Ordered at size (first ∷ rest) = (at ≤ first.start) × (first.start ≤ first.end) × Ordered first.end size rest
@@ -88,7 +89,7 @@ one_token at size [] k is = omega arith
 one_token at size (first ∷ rest) zero is = let later = within_size first.end size rest 0 is.2 in omega (arith, is.1, later.0)
 one_token at size (first ∷ rest) (suc k) is = one_token first.end size rest k is.2
 
--- so of tokens that follow one another the lengths together are no more than from the first to behind the last
+-- so the total length of consecutive tokens is at most the distance from the first to the token after the last
 all_tokens : (at size : ℕ) (tokens : List Token) (start count : ℕ) → Ordered at size tokens →
     lex_state_of size tokens (start + 2) + sum_by (λ k. token_length tokens (k + 2)) (range_with_len start count) ≤ lex_state_of size tokens (start + count + 2)
 all_tokens at size tokens start zero is =
@@ -102,11 +103,11 @@ all_tokens at size tokens start (suc count) is =
     let there : lex_state_of size tokens (start + 1 + count + 2) ≡ lex_state_of size tokens (start + suc count + 2) = ap (lex_state_of size tokens) (let n : start + 1 + count + 2 ≡ start + suc count + 2 = omega arith in n) in
     omega (arith, whole, one, next, here, there)
 
--- those that pass a test are no more together
+-- the sum over the elements that pass a test is at most the sum over all
 pub sum_passing : {X : Type 0} (test : X → Bool) (f : X → ℕ) (xs : List X) → sum_by f (filter test xs) ≤ sum_by f xs
 sum_passing test f xs = let both = sum_by-filter_both test (λ x. not (test x)) (λ x. refl) f xs in omega (arith, both)
 
--- a case is no longer than its string
+-- the name of a case is at most as long as its string literal
 case_length : (file : ℕ) (text : List ℕ) (here : Token) → length (string_case file text here).name ≤ here.end - here.start
 case_length file text here =
     let part = part_length text (here.start + 1) (here.end - 1) in

@@ -17,12 +17,12 @@ file_paths files = map (λ file. file.name.path) files
 abbrev pub source_paths : Project → List (List ℕ)
 source_paths project = if nat_le (length project.files) FILE_LIMIT then file_paths project.files else []
 
--- the paths of a project's files, and none where there is no project
+-- the paths of a project's files; an empty list if the project couldn't be read
 abbrev pub maybe_paths : Result Project SourceReading → List (List ℕ)
 maybe_paths (Ok project) = source_paths project
 maybe_paths (Err reading) = []
 
--- the other project file is read only where there is no TOML file
+-- the other project file is read only if the TOML file is absent
 abbrev pub other_paths : ReadEnd → List (List ℕ)
 other_paths read.Absent = codes "vunit.csv" ∷ []
 other_paths read.TooLong = []
@@ -32,8 +32,8 @@ other_paths (read.Got bytes) = []
 abbrev pub project_file_paths : (List ℕ → Option (List ℕ)) → List (List ℕ)
 project_file_paths file = codes "vunit.toml" ∷ other_paths (read_end (file (codes "vunit.toml")) TEXT_LIMIT)
 
--- The paths that are to be read of a tree: `vunit.toml`, only where that is absent `vunit.csv`, and then the files of
--- the project, in its order.
+-- The paths to read in a tree: `vunit.toml`, then `vunit.csv` only if that is absent, and then the files of the project,
+-- in its order.
 unfoldable pub project_paths : (List ℕ → Option (List ℕ)) → List (List ℕ) → List (List ℕ)
 project_paths file listed = project_file_paths file ++ maybe_paths (project_in file listed)
 

@@ -18,7 +18,7 @@ wants_tests Needed = true
 abbrev pub chosen : List (List ℕ) → List Bench → List Bench
 chosen patterns tests = selection (map pattern_parts_of patterns) tests
 
--- the graph that is wanted of a whole one: all of it, or the files at these places alone
+-- the graph that a query wants: the whole graph, or only the files at the needed positions
 abbrev pub queried : QueryKind → (whole : List Entry) → (needed : List ℕ) → List Entry
 queried Graph whole needed = whole
 queried Tests whole needed = whole

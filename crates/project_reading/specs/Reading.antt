@@ -74,7 +74,7 @@ abbrev pub toml_said : List ℕ → NamesEnd → Result Project SourceReading
 toml_said bytes names.TooMany = Err (Over limit.Names NAME_LIMIT)
 toml_said bytes (names.Got paths) = project_or (toml_project bytes paths)
 
--- the project of what is read of a TOML file: only where there is none, that of a project file of lines
+-- the project by the answer to reading the TOML file; only if that is absent, the project of `vunit.csv`
 abbrev pub project_said : (List ℕ → Option (List ℕ)) → List (List ℕ) → ReadEnd → Result Project SourceReading
 project_said file listed read.Absent = csv_said (read_end (file (codes "vunit.csv")) TEXT_LIMIT)
 project_said file listed read.TooLong = Err (Over limit.TextBytes TEXT_LIMIT)
@@ -90,13 +90,13 @@ project_in file listed = project_said file listed (read_end (file (codes "vunit.
 abbrev pub text_after : ℕ → List ℕ → Result (List ℕ) SourceReading
 text_after before text = if nat_le (before + length text) GRAPH_TEXT_LIMIT then Ok text else Err (Over limit.TotalBytes GRAPH_TEXT_LIMIT)
 
--- the text of a file after texts of so many bytes, or why nothing is compiled
+-- the text of a file after texts of `before` bytes, or why nothing is compiled
 abbrev pub text_of : FileName → ℕ → ReadEnd → Result (List ℕ) SourceReading
 text_of name before read.Absent = Err (Stops (refusal.AbsentFile name))
 text_of name before read.TooLong = Err (Over limit.TextBytes TEXT_LIMIT)
 text_of name before (read.Got text) = text_after before text
 
--- the texts of files after texts of so many bytes; or what the first file says, in project order, that gives no text
+-- the texts of files after texts of `before` bytes, or the fault of the first file in project order that gives no text
 unfoldable pub texts_of : (List ℕ → Option (List ℕ)) → ℕ → List ProjectFile → Result (List (List ℕ)) SourceReading
 texts_of file before [] = Ok []
 texts_of file before (first ∷ rest) = and_others (λ text. texts_of file (before + length text) rest) (text_of first.name before (read_end (file first.name.path) TEXT_LIMIT))
@@ -117,7 +117,8 @@ scans_of scan (file ∷ files) (text ∷ texts) = and_others (λ one. scans_of s
 
 -- ## The graph
 
--- the refusal of what is wrong with the names of units; the last row is never met, since nothing is said of memory
+-- the refusal for a fault in the names of units; the last row is never met, since these definitions never run out of
+-- memory
 abbrev pub link_refusal : LinkFault → Refusal
 link_refusal (link.DuplicateUnit unit first second) = refusal.DuplicateUnit unit first second
 link_refusal (link.MissingUnit file library unit) = refusal.MissingUnit file library unit
@@ -155,7 +156,7 @@ wanted_tests wanted project texts scans = if wanted then tests_or (tests_of (sou
 
 -- ## All
 
--- what is said of a linked project to find what tests need, and of a listed one
+-- a linked project as the sources of what tests need
 abbrev pub linked_needs : Project → List (List ℕ) → List Scan → Linked → NeedSources
 linked_needs project texts scans links = said_of project texts scans (Some links.edges)
 
@@ -163,7 +164,8 @@ linked_needs project texts scans links = said_of project texts scans (Some links
 abbrev pub listed_needs : Project → List (List ℕ) → List Scan → NeedSources
 listed_needs project texts scans = said_of project texts scans None
 
--- a linked project, its graph in compile order: all of it, or the files that the tests need that some pattern matches
+-- a linked project with its graph in compile order: the whole graph, or the files needed by the tests that some pattern
+-- matches
 abbrev pub ordered_reading : Query → Project → List (List ℕ) → List Scan → Linked → List ℕ → List Bench → SourceReading
 ordered_reading query project texts scans links order tests = Found (record {
   project = project;
@@ -193,8 +195,8 @@ found_reading query project texts scans tests = Found (record {
 abbrev pub listed_reading : Query → Project → List (List ℕ) → List Scan → SourceReading
 listed_reading query project texts scans = then_read (found_reading query project texts scans) (wanted_tests (wants_tests query.query_kind) project texts scans)
 
--- The reading of a project of these texts and scans, with what is wanted of it. What is wrong with the names of
--- its units or with their order comes first.
+-- The reading of a project of these texts and scans, for a query. Unless the project is listed, a fault in the names of
+-- its units or in their order comes before a fault in its tests.
 unfoldable pub scanned_reading : Query → Project → List (List ℕ) → List Scan → SourceReading
 scanned_reading query project texts scans = if project.listed then listed_reading query project texts scans else then_read (linked_reading query project texts scans) (links_of project texts scans)
 
@@ -210,8 +212,8 @@ files_reading query scan file project = then_read (texts_reading query scan proj
 abbrev pub sources_reading : Query → (List ℕ → Finding) → (List ℕ → Option (List ℕ)) → Project → SourceReading
 sources_reading query scan file project = if nat_le (length project.files) FILE_LIMIT then files_reading query scan file project else Over limit.Files FILE_LIMIT
 
--- What the sources say, a function of a scanner, a map from paths to bytes and the listed names. In order come the
--- project, the texts of its files, their scans, the graph, the wanted tests, and the part of the graph that these
--- need; the first thing that is wrong, or over a limit, ends it.
+-- What the sources say, a function of a scanner, a map from paths to bytes and the listed names. The steps are, in order:
+-- the project, the texts of its files, their scans, the graph, the wanted tests, and the part of the graph that these
+-- need. The first fault or passed limit ends the reading.
 unfoldable pub project_reading : (List ℕ → Finding) → (List ℕ → Option (List ℕ)) → List (List ℕ) → (query : Query) → SourceReading
 project_reading scan file listed query = then_read (sources_reading query scan file) (project_in file listed)

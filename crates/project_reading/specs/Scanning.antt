@@ -27,7 +27,7 @@ pub record AreScanned (files : List ProjectFile) (texts : List (List ℕ)) (outl
   pub lie : FilesLieIn texts outlines.files
   pub given : (scan : List ℕ → Finding) → IsScanner scan → scans_of scan files texts ≡ Ok scans
 
--- that, or why there are none; after out of memory nothing is owed
+-- the outlines of the files, or why they can't be had; after a fault or out of memory nothing is owed
 abbrev pub GivesOutlines : List ProjectFile → List (List ℕ) → Result Outlines ReadStop → Type 0
 GivesOutlines files texts (Ok outlines) = AreScanned files texts outlines
 GivesOutlines files texts (Err reason) = (scan : List ℕ → Finding) → IsScanner scan → Gives {T = List Scan} (scans_of scan files texts) (Err reason)

@@ -27,7 +27,7 @@ abbrev pub few_project : Result Project SourceReading → Result Project SourceR
 few_project (Ok project) = if nat_le (length project.files) FILE_LIMIT then Ok project else Err (Over limit.Files FILE_LIMIT)
 few_project (Err reading) = Err reading
 
--- the project was read; or nothing, where there is none, or it has more files than may be
+-- the project was read, or why it can't be: a refusal, or a limit that is passed, which may be that of its files
 abbrev pub GivesProject : Result Project SourceReading → Result Project ReadStop → Type 0
 GivesProject whole (Ok project) = whole ≡ Ok project
 GivesProject whole (Err stop) = Gives {T = Project} (few_project whole) (Err stop)

@@ -1,4 +1,4 @@
--- What the loop of `are_many` keeps: so many cases may still come.
+-- What the loop of `are_many` keeps: `left` is how many cases may still come within the limit.
 use Rattle.std.proofs.Common.{◌≡◌, ◌+◌, take}
 use Rattle.base.specs.declared.limits.TheConstants.{CASE_LIMIT}
 use Rattle.testbench_select.specs.Selection.{count_of_tests}

@@ -14,7 +14,7 @@ returns-in_err-project-clause-reading g c =
     let p = err_from_is_err_and c.from_residual.result c.from_residual.ensures.1 in
     rw (p.1, p.2) (λ scan is tells. no_project c.args.query.now scan (g.T.Tree.file c.args.tree.now) (project_in (g.T.Tree.file c.args.tree.now) (g.T.Tree.listed c.args.tree.now)) c.in_err-project.field-0.0 (c.in_err-project.ensures.project tells))
 
--- the first of the paths that are to be read
+-- if the first paths of the project files were asked for, the first paths of the whole tree were
 first_paths : (file : List ℕ → Option (List ℕ)) (listed old new : List (List ℕ)) → AsksFirst (project_file_paths file) old new → AsksFirst (project_paths file listed) old new
 unfolding project_paths
 first_paths file listed old new asks = first_of_more (project_file_paths file) (maybe_paths (project_in file listed)) old new asks
