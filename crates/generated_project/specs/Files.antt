@@ -104,15 +104,16 @@ toml_file = record { path = toml_path; bytes = toml_text }
 abbrev pub bench_file : NamedText
 bench_file = record { path = bench_path; bytes = bench_head ++ bench_body }
 
--- the file of a package, where that of a number is edited
+-- the file of a package, with the added line if its number is `edited`
 abbrev pub package_file : (edited : ℕ) → (number : ℕ) → NamedText
 package_file edited number = record { path = package_path number; bytes = package_text number (number == edited) }
 
--- so many packages, numbered from 1 on
+-- the files of `count` packages, numbered from 1 on
 abbrev pub packages : (edited : ℕ) → (count : ℕ) → List NamedText
 packages edited count = map (λ before. package_file edited (before + 1)) (below count)
 
--- the generated project of so many packages, of which that of a number is edited, or none where no package has that number
+-- the generated project with `count` packages; the package with the number `edited` is edited, or none if no package has this
+-- number
 abbrev pub generated_files : (count : ℕ) → (edited : ℕ) → List NamedText
 generated_files count edited = toml_file ∷ (bench_file ∷ packages edited count)
 
@@ -120,7 +121,7 @@ generated_files count edited = toml_file ∷ (bench_file ∷ packages edited cou
 abbrev pub files_in : (count : ℕ) → ℕ
 files_in count = count + 1
 
--- the package that is edited: the second, or the first where there is no second
+-- the number of the edited package: 2, or 1 if there is at most one package
 abbrev pub edited_package : (count : ℕ) → ℕ
 edited_package count = if nat_lt 1 count then 2 else 1
 

@@ -1,4 +1,4 @@
--- What is said of the generated project that was built twice.
+-- The lines that a run prints about the generated project after both builds.
 use Rattle.std.specs.Prelude.{ℕ, List, [], ◌∷◌, ◌++◌, codes}
 use Rattle.std.specs.Fmt.{decimal}
 use Rattle.generated_project.specs.declared.lines.Counts.{Counts}
