@@ -30,7 +30,7 @@ quiet_single roles start at quiet = record {
   no_close = λ (e : IsPlainEnd roles at). other_role roles at End refl quiet e.word;
 }
 
--- so many tokens from one on
+-- the test holds of the roles of `count` tokens from `at` on
 abbrev all_from : (Role → Bool) → List Role → ℕ → ℕ → Bool
 all_from test roles at zero = true
 all_from test roles at (suc count) = test (role_at roles at) && all_from test roles (at + 1) count

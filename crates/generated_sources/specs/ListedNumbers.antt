@@ -21,6 +21,6 @@ sorted_numbers (number ∷ numbers) = insert_key by_path (sorted_numbers numbers
 abbrev pub numbers_to : ℕ → List ℕ
 numbers_to count = map (λ before. before + 1) (below count)
 
--- the numbers of so many packages by path, and then 0 for the bench
+-- the numbers of `count` packages in the order of their paths, and then 0 for the bench
 abbrev pub listed_numbers : (count : ℕ) → List ℕ
 listed_numbers count = sorted_numbers (numbers_to count) ++ 0 ∷ []

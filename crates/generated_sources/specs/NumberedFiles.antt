@@ -57,7 +57,7 @@ pub record AreNumbers (numbers : List ℕ) : Type 0 where
   pub distinct : AllPairs (λ number other. number ≢ other) numbers
   pub closed : (user used : ℕ) → Contains numbers user → uses_number user used ≡ true → Contains numbers used
 
--- the numbers of the bench and of so many packages, each once
+-- the numbers from 0 to `count`, each once: 0 for the bench, and the others for the packages
 pub record AreAllNumbers (count : ℕ) (numbers : List ℕ) : Type 0 where
   pub within : All (λ number. number ≤ count) numbers
   pub distinct : AllPairs (λ number other. number ≢ other) numbers
@@ -67,7 +67,7 @@ pub record AreAllNumbers (count : ℕ) (numbers : List ℕ) : Type 0 where
 abbrev pub uses_at : List ℕ → (user used : ℕ) → Bool
 uses_at numbers user used = uses_number (slice_index numbers user) (slice_index numbers used)
 
--- of each file the positions of those that it uses, rising
+-- for each file the positions of the files that it uses, in ascending order
 abbrev pub numbered_edges : List ℕ → List (List ℕ)
 numbered_edges numbers = map (λ user. filter (uses_at numbers user) (below (length numbers))) (below (length numbers))
 

@@ -50,7 +50,7 @@ word start end = token Word start end
 abbrev symbol : ℕ → Token
 symbol start = token Symbol start (start + 1)
 
--- `library lib;` and `use lib.pN.all;`, each in a line, where N has so many digits
+-- the tokens of `library lib;` and `use lib.pN.all;`, each on its own line, where N has `digits` digits
 abbrev pub use_tokens : (digits : ℕ) → List Token
 use_tokens digits =
     word 0 7 ∷ word 8 11 ∷ symbol 11 ∷ word 13 16 ∷ word 17 20 ∷ symbol 20 ∷ word 21 (digits + 22) ∷ symbol (digits + 22) ∷
@@ -70,7 +70,7 @@ lines_tokens start digits =
     word (start + digits + 42) (start + digits + 45) ∷ word (start + digits + 46) (start + digits + 53) ∷
     word (start + digits + 54) (start + 2 * digits + 55) ∷ symbol (start + 2 * digits + 55) ∷ []
 
--- the offset after the line feed of `end package pN;`, where `package pN is` starts at an offset and N has so many digits
+-- the offset after the line feed of `end package pN;`, where `package pN is` begins at `start` and N has `digits` digits
 abbrev pub lines_end : (start digits : ℕ) → ℕ
 lines_end start digits = start + 2 * digits + 57
 
@@ -78,7 +78,8 @@ lines_end start digits = start + 2 * digits + 57
 abbrev pub package_start : (alone : Bool) → (used : ℕ) → ℕ
 package_start alone used = if alone then 0 else use_end used
 
--- the tokens of a file that uses a package with so many digits, or none, and whose own has so many
+-- the tokens of the file of a package whose number has `digits` digits; unless `alone`, it uses a package whose number has `used`
+-- digits
 abbrev pub file_tokens : (alone : Bool) → (used digits : ℕ) → List Token
 file_tokens alone used digits = (if alone then [] else use_tokens used) ++ lines_tokens (package_start alone used) digits
 
