@@ -59,7 +59,7 @@ job_read : (scan : List ℕ → Finding) (job : CompileJob) → IsJob job → an
 unfolding analysis
 job_read scan job is = ap (λ (read : Option CompileJob). option_map_or (answer scan) read bad_request) (job_again job is)
 
--- what is asked for such a file
+-- the compiler's input for such a file is its encoded job
 input_is : (path text : List ℕ) (entry : Entry) (deps : List BuiltFile) → IsLoopEntry path text entry → compile_input entry.name entry.text deps ≡ job_bytes (lib_job path text deps)
 input_is path text entry deps source =
     ap (λ (library : List ℕ). compile_input (record { library = library; path = entry.name.path }) entry.text deps) source.library

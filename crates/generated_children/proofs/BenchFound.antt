@@ -66,7 +66,8 @@ first_kept test x y is other = rw (is, other) refl
 
 -- ## The units of a file
 
--- the bench of the first two units of a file, whose architecture calls these cases, and those that it calls
+-- the bench of a file's first two units, with the cases that its architecture calls, or with one case for the whole bench if it
+-- calls none
 abbrev made_with : (position : ℕ) (library text : List ℕ) → Scan → List TestCase → Bench
 made_with position library text scan cases = record {
   library = library;
@@ -81,7 +82,7 @@ made_with position library text scan cases = record {
 abbrev made_of : (position : ℕ) (library text : List ℕ) → Scan → Bench
 made_of position library text scan = made_with position library text scan (called_cases position text scan.tokens.list (slice_index_or scan.units 1 no_design_unit))
 
--- what is asked of the units of a file
+-- the units of a file that pass a test
 abbrev units_with : ScannedFiles → (UnitId → Bool) → ℕ → List UnitId
 units_with sources test k = filter test (file_units sources.scans k)
 

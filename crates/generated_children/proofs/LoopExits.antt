@@ -1,4 +1,4 @@
--- What is taken of the compiler's answer where this is an artefact: all of it.
+-- If the compiler's answer is an artefact within the limit, the whole answer is taken.
 use Rattle.std.proofs.Common.{◌≡◌, ℕ, ◌≤◌, Bool, false, List, length, take, ap, ◌∙◌, arith}
 use Rattle.std.specs.Prelude.{codes}
 use Rattle.std.proofs.lemmas.Bool.Decides.{nat_tests}

@@ -26,11 +26,11 @@ generated_bench position = record { library = used_library; name = bench_entity_
 abbrev pub numbered_sources : (command : List (List ℕ)) → (edited : ℕ) → (numbers : List ℕ) → ScannedFiles
 numbered_sources command edited numbers = record { files = map (numbered_file command) numbers; texts = map (numbered_bytes edited) numbers; scans = map (numbered_scan edited) numbers }
 
--- distinct numbers, of which the one at a position is that of the bench
+-- distinct numbers, with the bench's number 0 at this position
 pub record HasBenchAt (numbers : List ℕ) (position : ℕ) : Type 0 where
   pub distinct : AllPairs (λ number other. number ≢ other) numbers
   pub there : slice_get numbers position ≡ Some 0
 
--- the runs of all of some tests: those that the pattern `*` selects
+-- the runs of all tests, which the pattern `*` selects
 abbrev pub runs_of_all : List ProjectFile → List Bench → List TestRun
 runs_of_all files tests = test_runs files (selection (map pattern_parts_of (codes "*" ∷ [])) tests)

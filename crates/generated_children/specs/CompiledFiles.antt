@@ -14,7 +14,7 @@ pub record IsLoopEntry (path text : List ℕ) (entry : Entry) : Type 0 where
   pub text_is : entry.text ≡ text
   pub compiler : second_word entry.command ≡ codes "child-analyse"
 
--- a file of that library, of which the artefact of a package was made, edited or not
+-- a file of that library whose artefact is the artefact of this package, edited or not
 pub record IsPackageBuilt (number : ℕ) (file : BuiltFile) : Type 0 where
   pub library : file.name.library ≡ used_library
   pub noted : Bool
