@@ -27,7 +27,7 @@ use Rattle.generated_runs.specs.declared.options.GenerateOptions.{GenerateOption
 use Rattle.generated_runs.specs.Sources.{second_work, second_order, plan_of, setting_of}
 use Rattle.generated_runs.specs.Ran.{RanBuild, RanSecond, RanTested, records_on}
 
--- what is said of tests is what became of them, where all files are made
+-- the answer has the test ends of the events if all files are made, and none otherwise
 ends_said : (setting : TestSetting) (made : Bool) (tests : Option TestEnd) (events : List Event) → SaysTests setting made tests events → tests ≡ (if made then Some (record { runs = test_ends setting events }) else None)
 ends_said setting made None events says = sym (cond-false made (Some (record { runs = test_ends setting events })) None says)
 ends_said setting made (Some end) events says = ap (λ (runs : List RunEnd). Some (record { runs = runs })) says.2 ∙ sym (cond-true made (Some (record { runs = test_ends setting events })) None says.0)

@@ -32,8 +32,8 @@ use Rattle.generated_runs.specs.Said.{tests_of, second_said, generated_said}
 abbrev pub records_on : DiskState → List Record
 records_on disk = requests_in (reads_of disk)
 
--- What a build did: it is of a graph, is lawful, each end is the answer to its start, and where there is no fault it ended by
--- itself.
+-- What a build did. Its workload is a graph if it had any event, its events are lawful, and each end is the answer to its start.
+-- Without a fault its workload is a graph, and the build ran to its end.
 pub record RanBuild (answer : Request → Exit) (work : Work) (whole : Type 0 → Type 0) (events : List Event) : Type 0 where
   pub graph : (events ≡ [] → ⊥) → IsGraph work.graph
   pub whole_graph : whole (IsGraph work.graph)
@@ -41,32 +41,32 @@ pub record RanBuild (answer : Request → Exit) (work : Work) (whole : Type 0 �
   pub answered : Answered answer events
   pub ended : whole (IsWhole work events)
 
--- What follows of a build where what is recorded is what a clean build makes: each compiler is asked for its file what a clean
--- build asks it. Where there is no fault, and no file is refused, the started files are exactly those for which the settled
--- build has a request, and the statuses are those that it says.
+-- What holds of a build if its records are what a clean build makes. Each compiler is started with the request of a clean build for
+-- its file. Without a fault, and if no file is refused, the started files are exactly the files for which the settled build has a
+-- request. The statuses are then the statuses of the settled build.
 pub record IsRightBuild (answer : Request → Exit) (work : Work) (whole : Type 0 → Type 0) (events : List Event) : Type 0 where
   pub asked : (before rest : List Event) (ticket : ℕ) (request : Request) → events ≡ before ++ Started ticket request ∷ rest →
       (position : ℕ) × (next_position work (progress_of work before) ≡ Some position) × (clean_request answer work.graph position ≡ Some request)
   pub started : whole (list_any is_refused (statuses_of work events) ≡ false → (position : ℕ) → Contains (progress_of work events).taken position ↔ ((request : Request) × (request_unless answer work.graph work.current position ≡ Some request)))
   pub steady : whole (list_any is_refused (statuses_of work events) ≡ false → statuses_of work events ≡ steady_statuses answer work.graph work.current)
 
--- What follows of a build and its tests where what is recorded is what a clean build makes: the build is right, and each test
--- is started over exactly the libraries of a clean build.
+-- What holds of a build and its tests if its records are what a clean build makes: the build is right, and each test is started
+-- over exactly the libraries of a clean build.
 pub record IsRightSecond (answer : Request → Exit) (options : GenerateOptions) (work : Work) (read : ReadProject) (whole : Type 0 → Type 0) (events : List Event) : Type 0 where
   pub build : IsRightBuild answer work whole (compile_part events)
   pub tests : AreRightTests answer (second_order options read.graph) (plan_of read) (test_part events)
 
--- What the first build did over a disk: where there is no fault its statuses are those of what happened, and reads of the disk
--- then give the records of its ends.
+-- What the first build did over a disk. Without a fault the answered statuses follow from the events, and reads of the disk then
+-- give the records of the build's ends.
 pub record RanFirst (answer : Request → Exit) (work : Work) (result : Result (List FileStatus) RunFault) (disk : DiskState) (events : List Event) : Type 0 where
   pub built : RanBuild answer work (OnOk result) events
   pub compilers : (compile_part events ≡ events) × (test_part events ≡ [])
   pub statuses : IfOk result (λ statuses. statuses ≡ statuses_of work events)
   pub records : OnOk result (records_on disk ≡ commits work events)
 
--- What a build and its tests did. First come the events of its compilers, and then those of the tests, which are lawful runs
--- of the plan over exactly what was built: none where a file isn't made. Where there is no fault, and all files are made, all
--- tests ended by themselves.
+-- What a build and its tests did. The events of the compilers come first, and then the events of the tests. The tests are lawful
+-- runs of the plan over exactly what was built; if a file isn't made, there are none. Without a fault, and if all files are made,
+-- all tests ran to their ends.
 pub record RanSecond (answer : Request → Exit) (work : Work) (setting : List Event → TestSetting) (whole : Type 0 → Type 0) (events : List Event) : Type 0 where
   pub parted : events ≡ compile_part events ++ test_part events
   pub graph : (test_part events ≡ [] → ⊥) → IsGraph work.graph
@@ -76,22 +76,22 @@ pub record RanSecond (answer : Request → Exit) (work : Work) (setting : List E
   pub replied : Answered answer (test_part events)
   pub all_tested : whole (list_all is_made (statuses_of work (compile_part events)) ≡ true → IsWholeTests (setting (compile_part events)) (test_part events))
 
--- What a build and its tests did, as `RanSecond` has it; and where there is no fault, the statuses and the ends of tests that are
--- answered are those of what happened.
+-- What a build and its tests did, as in `RanSecond`. Without a fault, the answered statuses and test ends follow from the events.
 pub record RanTested (answer : Request → Exit) (work : Work) (options : GenerateOptions) (read : ReadProject) (result : Result Tested RunFault) (events : List Event) : Type 0 where
   pub ran : RanSecond answer work (setting_of options read work) (OnOk result) events
   pub statuses : IfOk result (λ tested. tested.statuses ≡ statuses_of work (compile_part events))
   pub tests : IfOk result (λ tested. tested.tests ≡ tests_of options read work events)
 
--- What was done from the edited sources on, over these records, after a first build that compiled so many files.
+-- What a run did from the edited sources on, over these records, after a first build that compiled `first` files.
 pub record RanEdited (answer : Request → Exit) (options : GenerateOptions) (edited : SourceReading) (records : List Record) (first : ℕ) (result : Result GeneratedSaid RunFault) (events : List Event) : Type 0 where
   pub ran : (read : ReadProject) → edited ≡ Found read → RanSecond answer (second_work options records read.graph) (setting_of options read (second_work options records read.graph)) (OnOk result) events
   pub unread : ((read : ReadProject) → edited ≡ Found read → ⊥) → events ≡ []
   pub says : IfOk result (λ said. said ≡ second_said options first records edited events)
 
--- What was done with the generated project, by what its sources say before their edit and after it. The first part is a build
--- over no record. The second comes only where all files of the first are made, and the edited sources give a graph: a build and
--- its tests over the records of the ends of the first. Both are right. Where there is no fault, what is said is that of both parts.
+-- What a run did with the generated project, by the reading of its sources before and after their edit. The first part is a build
+-- over no record. The second part comes only if all files of the first build are made, and the edited sources give a graph. It is a
+-- build with its tests, over the records of the first build's ends. Both builds are right. Without a fault, outcome and text follow
+-- from both parts.
 pub record RanGenerated (answer : Request → Exit) (options : GenerateOptions) (reading edited : SourceReading) (result : Result GeneratedSaid RunFault) (events : List Event) : Type 0 where
   pub first : List Event
   pub second : List Event

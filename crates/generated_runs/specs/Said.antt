@@ -1,4 +1,4 @@
--- What is said of the generated project.
+-- The outcome and text of a run with the generated project.
 use Rattle.std.specs.Prelude.{ℕ, List, ◌++◌, Option, Some, None, if◌then◌else◌, count_by}
 use Rattle.std.specs.List.{list_all}
 use Rattle.base.specs.declared.child.Event.{Event}
@@ -31,53 +31,54 @@ IsAnswer outcome.NoMemory = ⊥
 IsAnswer (outcome.OutsideFault which) = ⊥
 IsAnswer answer = Unit {0}
 
--- what is said where the sources give nothing to build
+-- outcome and text if the sources are refused for this reason
 abbrev pub refusal_said : Refusal → GeneratedSaid
 refusal_said reason = record { outcome = outcome.Refused reason; text = refusal_text reason }
 
--- what is said where a quantity is over this limit
+-- outcome and text if a quantity is over this limit
 abbrev pub limit_said : Limit → (number : ℕ) → GeneratedSaid
 limit_said limit number = record { outcome = outcome.OverLimit limit; text = limit_text limit number }
 
--- what is said of a build with these statuses: its text after that of warnings, and its answer
+-- outcome and text of a build with these statuses; the text of warnings comes first
 abbrev pub statuses_said : ReadProject → List FileStatus → GeneratedSaid
 statuses_said read statuses = record { outcome = build_outcome read.graph statuses; text = warning_text read.project.files read.warnings ++ build_text shown_bytes read.graph statuses }
 
--- what is said of both builds and of the tests: how many files each build compiled, and how many cases have passed
+-- outcome and text after both builds and the tests: how many files each build compiled, and how many cases have passed
 abbrev pub counted_said : GenerateOptions → (first second : ℕ) → TestEnd → GeneratedSaid
 counted_said options first second end =
     let cases = tally (all_verdicts end.runs) in
     record { outcome = tests_outcome end.runs options.exit_0; text = count_lines (record { files = files_in options.packages; first = first; second = second; passed = cases.passed; total = cases.total }) }
 
--- what is said of the second build and of its tests, if there were any
+-- outcome and text after the second build: by its statuses if no test ran, and otherwise by the counts of both builds and of the
+-- tests
 abbrev pub tested_said : GenerateOptions → (first : ℕ) → ReadProject → List FileStatus → Option TestEnd → GeneratedSaid
 tested_said options first read statuses None = statuses_said read statuses
 tested_said options first read statuses (Some end) = counted_said options first (count_by is_compiled statuses) end
 
--- what became of the tests: nothing, where a file isn't made
+-- the ends of the tests; nothing if a file isn't made
 abbrev pub tests_of : GenerateOptions → ReadProject → Work → List Event → Option TestEnd
 tests_of options read work events =
     if list_all is_made (statuses_of work (compile_part events)) then Some (record { runs = test_ends (setting_of options read work (compile_part events)) (test_part events) }) else None
 
--- what is said of the second build of a project over records, and of its tests, by what happened
+-- outcome and text after the second build and its tests, over these records, by the events
 abbrev pub built_said : GenerateOptions → (first : ℕ) → List Record → ReadProject → List Event → GeneratedSaid
 built_said options first records read events =
     let work = second_work options records read.graph in
     tested_said options first read (statuses_of work (compile_part events)) (tests_of options read work events)
 
--- what is said after the first build, by what the edited sources say
+-- outcome and text after the first build, by the reading of the edited sources
 abbrev pub second_said : GenerateOptions → (first : ℕ) → List Record → SourceReading → List Event → GeneratedSaid
 second_said options first records (Stops reason) events = refusal_said reason
 second_said options first records (Over limit number) events = limit_said limit number
 second_said options first records (Found read) events = built_said options first records read events
 
--- what is said of the first build, and where all of its files are made of what follows
+-- outcome and text of the first build if a file isn't made, and otherwise of the second build and its tests
 abbrev pub both_said : GenerateOptions → SourceReading → ReadProject → (first second : List Event) → GeneratedSaid
 both_said options edited read first second =
     let statuses = statuses_of (first_work options read.graph) first in
     if list_all is_made statuses then second_said options (count_by is_compiled statuses) (first_records options read.graph first) edited second else statuses_said read statuses
 
--- what is said of all, by what the sources say before their edit and after it, and by what happened in each part
+-- outcome and text of the whole run, by the reading of the sources before and after their edit, and by the events of each part
 abbrev pub generated_said : GenerateOptions → (reading edited : SourceReading) → (first second : List Event) → GeneratedSaid
 generated_said options (Stops reason) edited first second = refusal_said reason
 generated_said options (Over limit number) edited first second = limit_said limit number

@@ -29,7 +29,7 @@ use Rattle.generated_runs.specs.declared.options.GenerateOptions.{GenerateOption
 unfoldable pub any_name : List ℕ
 any_name = codes "*"
 
--- so much is wanted, of all tests
+-- a query of this kind for all tests
 abbrev pub query_for : QueryKind → Query
 query_for query_kind = record { query_kind = query_kind; patterns = any_name ∷ [] }
 

@@ -1,4 +1,4 @@
--- What is said of the second build and of its tests.
+-- The outcome and text of the second build and its tests.
 use Rattle.std.proofs.Common.{Err}
 use Rattle.run_spec.specs.declared.fault.RunFault.TheVariants as fault
 use Rattle.run_spec.specs.ChildJournal.{since}
