@@ -55,7 +55,7 @@ module _ (answer : Request → Exit) (slots : ℕ) (before : List Entry) (makes 
       pub second_made : list_all is_made (statuses_of again second) ≡ true
       second_made = all_made answer again makes_after.graph_form makes_after.accepts again_clean second whole_again answered_again
 
-      -- and compiles those that are touched
+      -- and compiles exactly the files that the edit touches
       pub second_compiled : (edited : ℕ) → ChangesFile answer edited before after → CompilesOnly before (is_touched before edited) (touched_files before edited) (statuses_of again second)
       second_compiled edited changes =
           let is : CompilesOnly after (is_touched before edited) (count_by (is_touched before edited) (below (length after))) (statuses_of again second) =

@@ -1,5 +1,5 @@
--- What a build over no current record commits where a clean build makes all files: of each file one record, which has what a
--- clean build asks for it, and the artefact that a clean build makes of it.
+-- What a build over no current record commits if a clean build makes all files: one record for each file. The record has the clean
+-- build's request for the file, and the artefact that the clean build makes of it.
 use Rattle.std.proofs.Common.{◌≡◌, ℕ, ◌<◌, ◌==◌, ◌&&◌, Bool, true, false, cond, List, map, [], ◌∷◌, length, get_or, Option, Some, None, sym, ap, ap₂, subst, ◌∙◌, inl, inr, is_some}
 use Rattle.std.specs.Prelude.{All, slice_get}
 use Rattle.std.specs.List.{list_any, filter_map}

@@ -1,4 +1,4 @@
--- What is said of the generated project, by what its builds have compiled and by which of its cases have passed.
+-- The outcome and text of a run with the generated project, by the files that its builds compiled and the cases that passed.
 use Rattle.std.proofs.Common.{◌≡◌, ℕ, true, List, length, Some, None, Result, Ok, OnOk, refl, sym, ap, subst, ◌∙◌}
 use Rattle.std.specs.Prelude.{count_by}
 use Rattle.std.specs.List.{list_all}
@@ -122,7 +122,7 @@ module _ (answer : Request → Exit) (options : GenerateOptions) (read again : R
     pub have_passed : HavePassed (runs_in again) (tests_of options again work_again ran.second)
     have_passed = record { end = record { runs = ends }; is_end = is_end; total = total; passed = passed }
 
-    -- ## What is said
+    -- ## The outcome and the text
 
     abbrev lines_of : (first second passed total : ℕ) → Outcome → GeneratedSaid
     lines_of first second passed total outcome = record { outcome = outcome; text = count_lines (record { files = files_in options.packages; first = first; second = second; passed = passed; total = total }) }

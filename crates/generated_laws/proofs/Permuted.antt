@@ -31,7 +31,7 @@ mapped_count p f (x ∷ xs) = elim (cases_Bool (p (f x))) [
 ]
 
 module _ (p : ℕ → Bool) where
-  -- what passes is no more than among numbers that have all of these
+  -- among distinct numbers at most as many pass as in a list that contains all of them
   no_more : (xs ys : List ℕ) → AllPairs (λ a b. a ≢ b) xs → ((x : ℕ) → Contains xs x → Contains ys x) → length (filter p xs) ≤ length (filter p ys)
   no_more xs ys distinct among =
       length-le_from_is_member nat_eq_equiv (filter p xs) (filter p ys) (IsDistinct-from_AllPairs Decides-eqb (filter p xs) (AllPairs-filter (λ a b. a ≢ b) p xs distinct)) (λ x has.

@@ -1,5 +1,5 @@
--- The statuses of the settled build where a clean build makes all files, and what is recorded is what it makes: each file is fresh
--- where a record is current over what a clean build makes below it, and is compiled where none is.
+-- The statuses of the settled build if a clean build makes all files and the records are what it makes. A file is fresh if a record
+-- is current over what a clean build makes below it, and is compiled otherwise.
 use Rattle.std.proofs.Common.{◌≡◌, ℕ, zero, suc, ◌+◌, ◌<◌, ◌==◌, Bool, true, false, not, cond, List, map, [], ◌∷◌, ◌++◌, Option, Some, None, refl, ap, ◌∙◌, arith, is_some}
 use Rattle.std.specs.Prelude.{slice_get, count_by}
 use Rattle.std.proofs.lemmas.Bool.{cond-true, eq-eqb}

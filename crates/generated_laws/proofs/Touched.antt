@@ -1,4 +1,4 @@
--- The files that the edit of a package touches are those that come to its number.
+-- The edit of a package touches exactly the files from which a chain of uses leads to its number.
 use Rattle.std.proofs.Common.{◌≡◌, ◌≢◌, ℕ, zero, suc, ◌+◌, ◌<◌, ◌≤◌, ◌==◌, ◌&&◌, ◌||◌, Bool, true, false, Option, List, [], length, map, refl, sym, ap, subst, ◌∙◌, arith, inl, inr}
 use Rattle.std.specs.Prelude.{AllPairs, Contains, count_by, filter, slice_index}
 use Rattle.std.specs.List.{list_any}

@@ -1,5 +1,5 @@
--- The files that an edit touches: what a clean build makes of all others is the same before and after it; and where the artefact
--- of the edited file is another one, a file is asked something else exactly where it is touched.
+-- The files that an edit touches. A clean build makes the same of all other files before and after the edit. If the artefact of the
+-- edited file changes, the request for a file changes exactly if the edit touches it.
 use Rattle.std.proofs.Common.{◌≡◌, ℕ, zero, suc, ◌<◌, ◌==◌, Bool, true, false, List, [], ◌∷◌, length, get_or, Option, Some, None, sym, ap, subst, ◌∙◌, arith, inl, inr, is_some}
 use Rattle.std.specs.Prelude.{All, Contains, slice_get}
 use Rattle.std.specs.List.{list_all, list_any, filter_map, cons_option}
@@ -18,7 +18,7 @@ use Rattle.run_laws.proofs.CleanRanks.{clean_at, length-clean, same_next, filter
 use Rattle.generated_laws.specs.Edits.{IsEdit, is_touched}
 use Rattle.generated_laws.proofs.MadeFiles.{entry_deps}
 
--- a number that a test doesn't find is none of the list
+-- if a test finds no `x` in a list, no index of the list has it
 other_at : (x : ℕ) (xs : List ℕ) → list_any (λ y. y == x) xs ≡ false → (k : ℕ) (d : ℕ) → k < length xs → get_or xs k d ≡ x → ⊥
 other_at x [] none k d lt is = absurd (omega arith)
 other_at x (y ∷ xs) none zero d lt is = eqb-false y x (or_parts (y == x) (list_any (λ z. z == x) xs) none).0 is
@@ -51,7 +51,7 @@ module _ (edited : ℕ) (before after : List Entry) (valid : IsGraph before) (ed
       let parts = or_parts (at == edited) (list_any (λ dep. dep == edited) (deps_at before at)) untouched in
       (eqb-false at edited parts.0, parts.1)
 
-  -- no file below one that isn't touched is touched
+  -- an untouched file depends on no touched file
   module _ (at : ℕ) (entry : Entry) (found : slice_get before at ≡ Some entry) (untouched : touches at ≡ false) where
     none_below : list_any (λ dep. dep == edited) entry.deps ≡ false
     none_below = ap (list_any (λ dep. dep == edited)) (sym (entry_deps before at entry found)) ∙ (untouched_parts at untouched).1

@@ -6,7 +6,7 @@ use Rattle.run_spec.specs.declared.statuses.FileStatus.{FileStatus}
 use Rattle.run_spec.specs.declared.statuses.FileStatus.TheVariants as status
 use Rattle.run_spec.specs.Statuses.{is_compiled}
 
--- A build of a graph has compiled exactly the files at the positions that pass, which are so many, and found all others fresh.
+-- A build of a graph has compiled exactly the files at the positions that pass, `count` in number, and found all others fresh.
 pub record CompilesOnly (graph : List Entry) (passes : ℕ → Bool) (count : ℕ) (statuses : List FileStatus) : Type 0 where
   pub statuses_are : statuses ≡ map (λ position. if passes position then status.Compiled else status.Fresh) (below (length graph))
   pub count_is : count_by is_compiled statuses ≡ count

@@ -1,4 +1,4 @@
--- What is said of the generated project where all of its files are made and all of its cases pass.
+-- The outcome and text of a run with the generated project if all of its files are made and all of its cases pass.
 use Rattle.std.specs.Prelude.{◌≡◌, ℕ, List, length, Option, Some}
 use Rattle.base_outcomes.specs.declared.outcome.Outcome.TheVariants as outcome
 use Rattle.testbench_runs.specs.declared.ends.TestEnd.{TestEnd}
@@ -20,7 +20,7 @@ pub record HavePassed (runs : List TestRun) (tests : Option TestEnd) : Type 0 wh
   pub total : (tally (all_verdicts end.runs)).total ≡ case_count runs
   pub passed : (tally (all_verdicts end.runs)).passed ≡ case_count runs
 
--- what is said where the first build has compiled all files, the second one exactly those that the edit touches, and all
+-- outcome and text if the first build has compiled all files, the second build exactly the files that the edit touches, and all
 -- cases have passed
 abbrev pub passed_said : GenerateOptions → (edited : ℕ) → (read again : ReadProject) → GeneratedSaid
 passed_said options edited read again =

@@ -8,8 +8,8 @@ use Rattle.order.specs.BuildOrder.{Ordered, file_order}
 use Rattle.generated_sources.specs.PackageLinks.{used_library}
 use Rattle.generated_sources.specs.NumberedFiles.{AreAllNumbers, numbered_bytes, numbered_edges, numbered_path}
 
--- The bench and so many packages, fewer than a graph has files, with a command that compiles them and the order in which
--- they are compiled.
+-- The bench and `count` packages, at least one and fewer than the limit of files, with a command that compiles them and their
+-- compile order.
 pub record AreInOrder (count : ℕ) (command : List (List ℕ)) (numbers order : List ℕ) : Type 0 where
   pub some : 1 ≤ count
   pub few : count < FILE_LIMIT

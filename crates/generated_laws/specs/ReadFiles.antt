@@ -1,4 +1,4 @@
--- What is read of the generated project of so many packages, of which that of a number is edited.
+-- What the program reads of the generated project with `count` packages, where the package with the number `edited` is edited.
 use Rattle.std.specs.Prelude.{ℕ, List, [], map}
 use Rattle.base.specs.declared.design.Scan.{Scan}
 use Rattle.base.specs.declared.graph.Entry.{Entry}
