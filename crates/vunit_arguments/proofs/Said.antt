@@ -37,12 +37,12 @@ pub said : (arguments : List Text) → list_all is_utf8 arguments ≡ true → f
 unfolding setting_of
 said arguments texts taken = first (list_all is_utf8 arguments) (fault_of command_line arguments) (setting_in (matches_of command_line arguments)) None texts taken
 
--- words that aren't UTF-8 are no command line
+-- the fault for arguments that aren't UTF-8 is the right one
 pub no_text_read : (arguments : List Text) (why : ArgumentsFault) → AreNoText arguments why → ReadsArguments (setting_of arguments) (Err why)
 no_text_read arguments fault.NoMemory are = tt
 no_text_read arguments fault.Bad are = said_of_no_text arguments are
 
--- nor are those that aren't taken
+-- the fault for arguments that the command line rejects is the right one
 pub fault_read : (arguments : List Text) (why : ArgumentsFault) (e : Error) → HasKind (fault_of command_line arguments) e → (why ≡ fault.Bad → kind_of e ≢ OutOfMemory) → ReadsArguments (setting_of arguments) (Err why)
 fault_read arguments fault.NoMemory e has other_kind = tt
 fault_read arguments fault.Bad e has other_kind = said_of_fault arguments (λ none. go (fault_of command_line arguments) none has)

@@ -38,11 +38,11 @@ lettered letter rule = record rule { short = Some letter }
 abbrev pub threads : Rule
 threads = record (lettered 112 (numbered (codes "num-threads"))) { defaults = codes "1" ∷ [] }
 
--- the words that are no options: any number of them, and `*` where there is none
+-- the arguments that aren't options, which are patterns: any number of them; without a pattern, `*` is assumed
 abbrev pub patterns : Rule
 patterns = record (new_rule (codes "patterns")) { range = Some (record { start_inclusive = 0; end_inclusive = usize_max }); defaults = codes "*" ∷ [] }
 
--- the command with the options that say what is to be done, and how
+-- the command with the options that choose the task and how it is done
 abbrev pub with_modes : App → App
 with_modes app =
     with_rule (with_rule (with_rule (with_rule (with_rule (with_rule (with_rule app
@@ -138,7 +138,7 @@ takes_arguments arguments = list_all is_utf8 arguments && has_none (fault_of com
 unfoldable pub setting_of : List Text → Option Setting
 setting_of arguments = if takes_arguments arguments then setting_in (matches_of command_line arguments) else None
 
--- an answer is what the words say, that they are no command line, or out of memory
+-- an answer is right if it is the setting of the arguments, or `Bad` if they are not a command line, or out of memory
 abbrev pub ReadsArguments : Option Setting → Result Setting ArgumentsFault → Type 0
 ReadsArguments said (Ok setting) = said ≡ Some setting
 ReadsArguments said (Err fault.Bad) = said ≡ None
