@@ -65,8 +65,8 @@ pub record RanFirst (answer : Request → Exit) (work : Work) (result : Result (
   pub records : OnOk result (records_on disk ≡ commits work events)
 
 -- What a build and its tests did. The events of the compilers come first, and then the events of the tests. The tests are lawful
--- runs of the plan over exactly what was built; if a file isn't made, there are none. Without a fault, and if all files are made,
--- all tests ran to their ends.
+-- runs of the plan over exactly what was built, and no test is started unless all files are made. Without a fault, and if all files
+-- are made, all tests ran to their ends.
 pub record RanSecond (answer : Request → Exit) (work : Work) (setting : List Event → TestSetting) (whole : Type 0 → Type 0) (events : List Event) : Type 0 where
   pub parted : events ≡ compile_part events ++ test_part events
   pub graph : (test_part events ≡ [] → ⊥) → IsGraph work.graph
