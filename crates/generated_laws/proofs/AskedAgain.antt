@@ -19,8 +19,8 @@ use Rattle.generated_laws.specs.Edits.{AcceptsAll, IsEdit, clean_file, is_touche
 use Rattle.generated_laws.proofs.MadeFiles.{entry_deps, free, made_file, clean_file_is}
 use Rattle.generated_laws.proofs.TouchedFiles.{same_picked, same_below}
 
--- The file at a position before an edit and after it: its name and dependencies stay the same. Unless it is the edited file, all of
--- it stays the same.
+-- The file at a position before an edit and after it: its name and dependencies stay the same. If it isn't the edited file, its
+-- whole entry stays the same.
 record IsSameFile (is_edited : Type 0) (entry other : Entry) : Type 0 where
   name : other.name ≡ entry.name
   deps : other.deps ≡ entry.deps

@@ -1,5 +1,5 @@
 -- The statuses of the settled build if a clean build makes all files and the records are what it makes. A file is fresh if a record
--- is current over what a clean build makes below it, and is compiled otherwise.
+-- is current over what a clean build makes below it. Otherwise it is compiled.
 use Rattle.std.proofs.Common.{◌≡◌, ℕ, zero, suc, ◌+◌, ◌<◌, ◌==◌, Bool, true, false, not, cond, List, map, [], ◌∷◌, ◌++◌, Option, Some, None, refl, ap, ◌∙◌, arith, is_some}
 use Rattle.std.specs.Prelude.{slice_get, count_by}
 use Rattle.std.proofs.lemmas.Bool.{cond-true, eq-eqb}

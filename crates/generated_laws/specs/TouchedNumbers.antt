@@ -11,7 +11,7 @@ has_used number = is_bench_number number || nat_lt 1 number
 abbrev pub used_of : ℕ → ℕ
 used_of number = if is_bench_number number then 1 else number / 2
 
--- a chain of at most `steps` uses leads from a file to the edited package; the chain from that package to itself has none
+-- a file is the edited package's, or reaches it by a chain of at most `steps` uses
 unfoldable pub comes_to : (steps : ℕ) → (edited number : ℕ) → Bool
 comes_to zero edited number = number == edited
 comes_to (suc steps) edited number = number == edited || (has_used number && comes_to steps edited (used_of number))
