@@ -50,7 +50,7 @@ said_ended outcome.NoMemory is = absurd is
 said_ended (outcome.OverLimit limit) is = tt
 said_ended (outcome.Child code) is = tt
 
--- what is to be built is one order with one text of warnings
+-- two equal readings that build have equal orders
 same_order : (order other : Order) (warnings more : List ℕ) → Builds order warnings ≡ Builds other more → order ≡ other
 same_order order other warnings more is = cc
 
@@ -105,7 +105,7 @@ none_run tells answer asked journal moments failures put report =
     (λ w. nothing_written fault.NoMemory asked.report (said_between asked (seen journal moments failures put report) (seen journal moments failures put report)).report report)
 
 module _ (tells same : Object → Type 0) (scan : List ℕ → Finding) (answer : Request → Exit) where
-  -- a run that leaves disk and children as they are
+  -- a run that leaves disk and children unchanged
   pub acts_idle : (r : Reading) (words : List (List ℕ)) (result : Outcome) (journal : List Event) (moments : Moments) → AreSound moments → (failures : ℕ) (put now : List ℕ) (report after : List ℕ → Option (List ℕ)) →
       (HasEnded result → order_of r ≡ None) → same Disk → same Children → (report_path_of r ≡ Nothing → same Reports) → ((path text : List ℕ) → r ≡ Exports path text → same Out) →
       (tells Out → (what : Said) → plain_said r ≡ Some what → Says result what put now) → ((what : Said) → plain_said r ≡ Some what → IsSaid result → result ≡ what.outcome) → (tells Out → (order : Order) (warnings : List ℕ) → r ≡ Builds order warnings → (what : Said) → Says result what put now) →
@@ -130,7 +130,7 @@ module _ (tells same : Object → Type 0) (scan : List ℕ → Finding) (answer 
     writes = writes;
   }
 
-  -- one that says what is said where nothing is built and no report is written
+  -- a run that builds nothing and writes no report, with outcome and text by its reading
   pub acts_quiet : (r : Reading) (words : List (List ℕ)) (result : Outcome) (journal : List Event) (moments : Moments) → AreSound moments → (failures : ℕ) (put now : List ℕ) (report : List ℕ → Option (List ℕ)) →
       order_of r ≡ None → report_path_of r ≡ Nothing → same Disk → same Children → same Reports → (tells Out → (what : Said) → plain_said r ≡ Some what → Says result what put now) → ((what : Said) → plain_said r ≡ Some what → IsSaid result → result ≡ what.outcome) →
       Acts tells same scan answer r words result (seen journal moments failures put report) (seen journal moments failures now report)
@@ -151,7 +151,7 @@ module _ (tells same : Object → Type 0) (scan : List ℕ → Finding) (answer 
   answers_of result None given what is answered = absurd (none-some what is)
   answers_of result (Some mine) given what is answered = given answered ∙ ap (λ (w : Said). w.outcome) (some_said mine what is)
 
-  -- one that says what is said where nothing is built
+  -- the same, from the outcome and text of the reading if it has them
   pub acts_said : (r : Reading) (words : List (List ℕ)) (result : Outcome) (journal : List Event) (moments : Moments) → AreSound moments → (failures : ℕ) (put now : List ℕ) (report : List ℕ → Option (List ℕ)) →
       order_of r ≡ None → report_path_of r ≡ Nothing → same Disk → same Children → same Reports → IfSome (plain_said r) (λ mine. tells Out → Says result mine put now) → IfSome (plain_said r) (λ mine. IsSaid result → result ≡ mine.outcome) →
       Acts tells same scan answer r words result (seen journal moments failures put report) (seen journal moments failures now report)

@@ -1,4 +1,4 @@
--- Which objects a call leaves as they are, by what it touches.
+-- Which objects a call leaves unchanged, by what it touches.
 use Rattle.std.proofs.Common.{◌≡◌, Bool, true, false, Option, None, Result, Ok, Err, refl, sym, ap, ◌∙◌}
 use Rattle.std.specs.Prelude.{ℕ, List, if◌then◌else◌, nat_lt}
 use Rattle.std.proofs.lemmas.Bool.{false≢true}
@@ -108,7 +108,7 @@ no_child_set setting =
     (either (λ job. may_touch job Input ≡ false) (nat_lt 0 setting.generate) (generate_task setting) (Ok (task_of setting))
     (either (λ job. may_touch job Input ≡ false) (nat_lt setting.generate FILE_LIMIT) (Err (Generates (generate_options_of setting))) (Err (Over limits.Files FILE_LIMIT)) refl refl) refl)
 
--- by what a task leaves as it is, and by what words alone do
+-- a call leaves the objects unchanged that neither its task nor its words alone let it touch
 pub settled_frame : (same : Object → Type 0) (job : Result Task Reading) → same Input → ((r : Reading) → job ≡ Err r → same Tree × same Disk × same Children × same Reports) →
     ((todo : Task) → job ≡ Ok todo → is_build todo ≡ false → same Disk × same Children) → ((todo : Task) → job ≡ Ok todo → may_write todo ≡ false → same Reports) →
     (object : Object) → may_touch job object ≡ false → same object

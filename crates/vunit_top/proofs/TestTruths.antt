@@ -87,7 +87,7 @@ all_have work events made position inside =
     made_has work.keep_going _ (artefact_after work events position)
     (made_at (statuses_of work events) position (status_at work ends position) made (status_in (status_at work ends) (length work.graph) position inside))
 
--- what is said of tests is what became of them, where all files are made
+-- the answer has the test ends of the events if all files are made, and none otherwise
 ends_said : (setting : TestSetting) (made : Bool) (tests : Option TestEnd) (events : List Event) → SaysTests setting made tests events → tests ≡ (if made then Some (record { runs = test_ends setting events }) else None)
 ends_said setting made None events says = sym (cond-false made (Some (record { runs = test_ends setting events })) None says)
 ends_said setting made (Some end) events says = ap (λ (runs : List RunEnd). Some (record { runs = runs })) says.2 ∙ sym (cond-true made (Some (record { runs = test_ends setting events })) None says.0)
@@ -143,7 +143,7 @@ fault_counted why first now others explains fell = record { cause = cause why ex
   cause fault.ChildLost is = is
   cause fault.DiskFailed is = is
 
--- and where there is no fault, those of what is said after it count
+-- and without a fault, what accounts for the later outcome accounts for it from the first counts on
 pub ended_counted : (first now : BuildFaultCounts) (old new : RunFaultCounts) (said : Outcome) → Explains None first now → IsAccounted said (record old { build = now }) (record new { build = now }) →
     IsAccounted said (record old { build = first }) (record new { build = now })
 ended_counted first now old new said same accounted =
@@ -179,7 +179,7 @@ module _ (scan : List ℕ → Finding) (answer : Request → Exit) (asked : Test
   abbrev Over : Result Tested RunFault → Type 0
   Over result = TestsOver records_in_image answer asked.order asked.plan result failed old new events
 
-  -- it keeps the records, and has none to commit
+  -- it writes nothing over a disk at rest if it commits nothing
   abbrev Quiet : Result Tested RunFault → Type 0
   Quiet result = RestsOver records_in_image (λ image. IsResting image) asked.order result old new (compile_part events)
 

@@ -36,7 +36,7 @@ use Rattle.vunit_top.specs.Runs.{RunsBy}
 use Rattle.vunit_top.proofs.RunTruths.{runs_idle}
 use Rattle.vunit_top.proofs.TestTruths.{nothing_written}
 
--- a journal that is as it was grew by nothing
+-- an unchanged journal grew by nothing
 pub grown_none : (journal : List Event) → journal ≡ journal ++ since journal journal
 grown_none journal = sym (ap (λ (l : List Event). journal ++ l) (since_itself journal) ∙ append-nil journal)
 
@@ -44,7 +44,7 @@ grown_none journal = sym (ap (λ (l : List Event). journal ++ l) (since_itself j
 pub asks_none : (paths before after : List (List ℕ)) → after ≡ before → AsksFirst paths before after
 asks_none paths before after is = record { first = []; rest = paths; split = refl; asked = is ∙ sym (append-nil before) }
 
--- what became of a build where there was none
+-- what a run without a build did
 pub ran_idle : (scan : List ℕ → Finding) (answer : Request → Exit) (r : Reading) (words : List (List ℕ)) (result : Outcome) (journal : List Event) (moments : Moments) → AreSound moments → (failures : ℕ) (put now : List ℕ) (report after : List ℕ → Option (List ℕ)) →
     (HasEnded result → order_of r ≡ None) → RunsBy scan answer r (run_between words result (seen journal moments failures put report) (seen journal moments failures now after)) moments moments
 ran_idle scan answer r words result journal moments sound failures put now report after unordered = runs_idle scan answer r words result (has_risen failures failures) journal moments sound unordered
@@ -200,7 +200,7 @@ module _ (call : Call) (scan : List ℕ → Finding) (words : List (List ℕ)) (
       did_acts r (Err r) (acts tt) no_child plain input (λ e. (alone r refl).0)
       (inr (asks_none (project_paths before.sources.file before.sources.listed) before.paths after.paths (paths (alone r refl).0), (alone r refl).1, (alone r refl).2))
 
-  -- of words that alone say what is said, without a child
+  -- what a call did if words alone give its reading, and it builds nothing
   pub did_alone : (r : Reading) → order_of r ≡ None → generates (Err r) ≡ false → RunsBy scan before.answer r (run_between words result (part before) (part after)) before.moments after.moments → tests_since (part before) (part after) ≡ [] →
       (tells Out → IsTold tells r → IfSome (said_of scan r before after) (λ said. Puts r result said before.put after.put)) → (IsTold tells r → IfSome (said_of scan r before after) (λ said. IsSaid result → result ≡ said.outcome)) →
       (tells Reports → IsTold tells r → Leaves r result before after) → ((object : Object) → touches r object ≡ false → same object) → (tells Input → LeavesOut scan r before.left (same Out)) → after.paths ≡ before.paths → same Disk → same Children → DidAs call scan (Err r) words r result
@@ -233,7 +233,7 @@ module _ (call : Call) (scan : List ℕ → Finding) (words : List (List ℕ)) (
     generated = λ c other is. subst (λ (o : GenerateOptions). GeneratesAs scan before.answer o result (tells Out) (since before.journal after.journal) before.put after.put) (same_generated options other is) (given c);
   }
 
--- what a call keeps that leaves tree and children as they are
+-- what a call keeps if it leaves tree and children unchanged
 pub keeps_still : (call : Call) (words : List (List ℕ)) (result : Outcome) (job : Result Task Reading) → words_task words ≡ job →
     call.after.answer ≡ call.before.answer → call.after.sources.file ≡ call.before.sources.file → call.after.sources.listed ≡ call.before.sources.listed → call.kept → call.after.journal ≡ call.before.journal →
     ((object : Object) → may_touch job object ≡ false → call.same object) →

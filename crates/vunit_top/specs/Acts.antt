@@ -41,7 +41,7 @@ pub data Object : Type 0 where
   Out : Object
   Reports : Object
 
--- what holds of an object of those that a task may change, by which one it is
+-- what holds of an object, by which one it is; the input and the tree are not of interest here
 abbrev pub of_each : (disk children out reports : Type 0) → Object → Type 0
 of_each disk children out reports Input = Unit {0}
 of_each disk children out reports Tree = Unit {0}
@@ -80,22 +80,22 @@ tests_since before after = test_part (since before.journal after.journal)
 abbrev pub setting_between : Testing → Seen → Seen → TestSetting
 setting_between asked before after = setting_after asked.order asked.plan (work_over records_in_image asked.order before.moments.now) (compile_part (since before.journal after.journal))
 
--- what became of the tests of a run between two moments: nothing, where a file isn't made
+-- the ends of the tests of a run between two moments; nothing if a file isn't made
 abbrev pub tests_between : Testing → Seen → Seen → Option TestEnd
 tests_between asked before after =
     if list_all is_made (statuses_between asked.order before after) then Some (record { runs = test_ends (setting_between asked before after) (tests_since before after) }) else None
 
--- what is said of a build and of its tests between two moments
+-- outcome, text and report of a build and its tests between two moments
 abbrev pub said_between : Testing → Seen → Seen → RunSaid
 said_between asked before after = run_said asked.warnings asked.order.graph (statuses_between asked.order before after) asked.plan.runs asked.words (tests_between asked before after)
 
--- What a run with tests did and said between two moments, besides its build. All events of compilers come before those of
--- tests. These are lawful runs of the plan over exactly what was built, none where a file isn't made; each end is what the children
--- of this run answer to its start; and they are whole where the run has ended and all files are made. On every answer, where a test was started, each
--- file has a record of its present view in whatever a stop can leave at the end. Where they are whole, without `--fail-fast`, the
--- ends are those of the answers to their requests, whatever the order in which they came. From a disk of true records each start of a
--- test is over the libraries of a clean build. The text is that of statuses, verdicts and outputs, and so are the answer and the
--- report, which is written last.
+-- What a run with tests did and said between two moments, besides its build. All events of compilers come before those of tests.
+-- The tests are lawful runs of the plan over exactly what was built, and no test is started unless all files are made. Each end is
+-- what the children of this run answer to its start. If the run has ended and all files are made, the tests are whole. On every
+-- answer, if a test was started, each file has a record of its present view in whatever a stop can leave at the end. If the tests
+-- are whole and `--fail-fast` isn't given, their ends follow from the answers to their requests, in whatever order these came. From
+-- a disk of true records each test is started over the libraries of a clean build. Text, outcome and report follow from statuses,
+-- verdicts and outputs. The report is written last.
 pub record RunsTests (tells : Object → Type 0) (answer : Request → Exit) (asked : Testing) (result : Outcome) (before after : Seen) : Type 0 where
   pub parted : tells Disk → tells Children → since before.journal after.journal ≡ compile_part (since before.journal after.journal) ++ tests_since before after
   pub tested : tells Disk → tells Children → HasTested asked.order asked.plan (work_over records_in_image asked.order before.moments.now) (compile_part (since before.journal after.journal)) (tests_since before after)
@@ -110,13 +110,11 @@ pub record RunsTests (tells : Object → Type 0) (answer : Request → Exit) (as
   pub answers : tells Disk → tells Children → IsSaid result → result ≡ (said_between asked before after).outcome
   pub writes : tells Disk → tells Children → tells Reports → WritesReport asked.report (said_between asked before after).report result before.report after.report
 
--- What a run did and said between two moments, by what is to be done. What each clause needs to be told, and which objects
--- are the same, are its premises.
+-- What a run did and said between two moments, by its reading. The premises of a clause name the objects that must tell for it.
 pub record Acts (tells same : Object → Type 0) (scan : List ℕ → Finding) (answer : Request → Exit) (r : Reading) (words : List (List ℕ)) (result : Outcome) (before after : Seen) : Type 0 where
   -- what it did is a step of a history, with what follows of it
   pub ran : tells Disk → tells Children → RunsBy scan answer r (run_between words result before after) before.moments after.moments
-  -- where nothing is to be built, disk and children are as before; so are the reports where none is to be written, and the
-  -- output where a report is
+  -- without an order, disk and children are unchanged; without the path of a report, the reports; and after an export, the output
   pub untouched : order_of r ≡ None → same Disk × same Children
   pub unreported : report_path_of r ≡ Nothing → same Reports
   pub silent : (path text : List ℕ) → r ≡ Exports path text → same Out
@@ -127,7 +125,7 @@ pub record Acts (tells same : Object → Type 0) (scan : List ℕ → Finding) (
       Says result (build_said warnings order.graph (statuses_between order before after)) before.put after.put
   pub answers : tells Disk → tells Children → (order : Order) (warnings : List ℕ) → r ≡ Builds order warnings → IsSaid result →
       result ≡ build_outcome order.graph (statuses_between order before after)
-  -- of a run with tests: what they did, and what is said of them; and no test is started where there is no plan
+  -- of a run with tests, what the tests did, with outcome, text and report; without a plan no test is started
   pub runs : (asked : Testing) → r ≡ Runs asked → RunsTests tells answer asked result before after
   pub untested : tells Children → plan_in r ≡ None → tests_since before after ≡ []
   -- the report that is written

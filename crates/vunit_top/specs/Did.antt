@@ -39,9 +39,9 @@ of_objects input tree disk children out reports Children = children
 of_objects input tree disk children out reports Out = out
 of_objects input tree disk children out reports Reports = reports
 
--- What six objects tell at a moment: what remains of the input; the files of the tree, and the paths that it was asked for; what
--- each child answers, and the journal of children; the moments of the disk; what was put; the files of reports; and how often
--- each object has failed.
+-- What six objects tell at a moment, and how often each of them has failed. The input tells what remains of it. The tree tells its
+-- files and the paths that it was asked for. The children tell their answers and their journal, and the disk tells its moments. The
+-- output tells what was put, and the reports tell their files.
 pub record Snapshot : Type 0 where
   pub left : List ℕ
   pub sources : Sources
@@ -92,12 +92,12 @@ call_of source tree disk procs sink reports input files store children out repor
   after = snapshot_of source tree disk procs sink reports input_after files_after store_after children_after out_after report_after;
 }
 
--- the tree tells, where words say that sources are read
+-- the tree tells, if the task reads sources
 abbrev pub AreSourcesTold : (tells : Type 0) → Result Task Reading → Type 0
 AreSourcesTold tells (Ok task) = tells
 AreSourcesTold tells (Err reading) = Unit {0}
 
--- what has to be told, so that it is known what is said: of a child of the program its input, and of a build disk and children
+-- which objects must tell for outcome and text to be known: the input for a child of the program, and disk and children for a build
 abbrev pub IsTold : (Object → Type 0) → Reading → Type 0
 IsTold tells (Child tool) = tells Input
 IsTold tells (Builds order warnings) = tells Disk × tells Children
@@ -109,35 +109,35 @@ abbrev pub tool_said : (List ℕ → Finding) → Tool → List ℕ → Said
 tool_said scan Compiler left = child_said (analysis scan) left
 tool_said scan Simulator left = child_said simulation left
 
--- what is answered and put, by the reading; of a generated project another record says it
+-- outcome and text by the reading; for a generated project `GeneratesAs` has them
 abbrev pub said_of : (List ℕ → Finding) → Reading → (before after : Snapshot) → Option Said
 said_of scan (Child tool) before after = Some (tool_said scan tool before.left)
 said_of scan (Builds order warnings) before after = Some (build_said warnings order.graph (statuses_between order (part before) (part after)))
 said_of scan (Runs asked) before after = Some (plain_run (said_between asked (part before) (part after)))
 said_of scan reading before after = plain_said reading
 
--- what is put: with a report that is written after it, a fault of the report leaves it put
+-- what is put; if a report is written after the text, the text stays put after a fault of the report
 abbrev pub Puts : Reading → Outcome → Said → (old new : List ℕ) → Type 0
 Puts (Runs asked) result said old new = SaysRun result said old new
 Puts reading result said old new = Says result said old new
 
--- what is left of the files of reports, where one may be written
+-- the files of reports after a call, by each reading that may write one
 abbrev pub Leaves : Reading → Outcome → (before after : Snapshot) → Type 0
 Leaves (Child Simulator) result before after = WritesResults (child_results before.left) result before.report after.report
 Leaves (Exports path text) result before after = Writes result path text before.report after.report
 Leaves (Runs asked) result before after = WritesReport asked.report (said_between asked (part before) (part after)).report result before.report after.report
 Leaves reading result before after = Unit {0}
 
--- an output that is the same, where the program is a child that says nothing
+-- the output is the same if the program is a child that says nothing
 abbrev pub LeavesOut : (List ℕ → Finding) → Reading → (left : List ℕ) → (same : Type 0) → Type 0
 LeavesOut scan (Child tool) left same = (tool_said scan tool left).text ≡ [] → same
 LeavesOut scan reading left same = Unit {0}
 
--- What a call did and said, by its reading. What it did to the disk is a step of a history, and right from a disk of true
--- records; a run with tests ran them over exactly what was built; where none are asked for none was started. What it says, answers
--- and leaves of reports is that of the reading. No other object is touched than the reading names, and not the output of a
--- child that says nothing. Each source is asked for once, in project order: all of them, or the first ones, and then neither
--- disk nor children are touched. What a run did that generates a project, over a disk of its own, has its own record.
+-- What a call did and said, by its reading. What it did to the disk is a step of a history, and right from a disk of true records.
+-- A run with tests ran them over exactly what was built; without a plan no test was started. Text, outcome and reports are those of
+-- the reading. A call touches only the objects that its reading names; a child that says nothing leaves the output unchanged. Each
+-- source is asked for once, in project order: either all of them, or the first ones, and then neither disk nor children are
+-- touched. A run that generates a project works over a disk of its own, and `GeneratesAs` says what it did.
 pub record DidAs (call : Call) (scan : List ℕ → Finding) (task : Result Task Reading) (words : List (List ℕ)) (r : Reading) (result : Outcome) : Type 0 where
   pub ran : call.tells Disk → call.tells Children → generates task ≡ false →
       RunsBy scan call.before.answer r (run_between words result (part call.before) (part call.after)) call.before.moments call.after.moments
@@ -154,13 +154,13 @@ pub record DidAs (call : Call) (scan : List ℕ → Finding) (task : Result Task
   pub generated : call.tells Children → (options : GenerateOptions) → r ≡ Generates options →
       GeneratesAs scan call.before.answer options result (call.tells Out) (since call.before.journal call.after.journal) call.before.put call.after.put
 
--- what a call did and said with these words, where the sources are told that they ask for
+-- what a call did and said with these words, if the sources are told that they ask for
 abbrev pub Did : Call → (List ℕ → Finding) → List (List ℕ) → Outcome → Type 0
 Did call scan words result = AreSourcesTold (call.tells Tree) (words_task words) → DidAs call scan (words_task words) words (reading scan words call.before.sources) result
 
--- What a call leaves, whatever is told of it and whatever it answers: files of the tree and answers of children; a journal that grew
--- at its end alone, by compilers alone where words say that no test is run. It touches no object but those that words name,
--- and after a fault of the tree or the input neither disk nor children nor reports.
+-- What a call leaves, whatever it answers. The tree has the same files, and the children give the same answers. If the children
+-- tell, their journal grew only at its end, and only by compilers if the words start no test. The call touches only objects that
+-- its words allow. After a fault of the tree or the input, disk, children and reports are unchanged.
 pub record Keeps (call : Call) (words : List (List ℕ)) (result : Outcome) : Type 0 where
   pub answer : call.after.answer ≡ call.before.answer
   pub file : call.after.sources.file ≡ call.before.sources.file

@@ -24,8 +24,8 @@ ReportCauses (outcome.OutsideFault which.Report) old new = Rose old new
 ReportCauses (outcome.OutsideFault other) old new = ⊥
 ReportCauses answer old new = new ≡ old
 
--- What an answer of a part that only writes a report leaves of the files of reports: after `Done` the file of the path has
--- exactly the text, and no other is changed; after a fault of the report no other is changed; else none is.
+-- The files of reports after an answer of a part that only writes a report. After `Done` the file of the path has exactly the text,
+-- and no other file is changed. After a fault of the report no other file is changed. After any other answer no file is changed.
 abbrev pub Writes : Outcome → (path text : List ℕ) → (old new : List ℕ → Option (List ℕ)) → Type 0
 Writes outcome.Done path text old new = HasWritten path text old new
 Writes (outcome.OutsideFault which.Report) path text old new = IsSameBut path old new
@@ -35,15 +35,16 @@ Writes answer path text old new = new ≡ old
 abbrev pub StopCounts : ReadStop → ℕ → ℕ → Type 0
 StopCounts stop old new = ReadCounts {T = Unit {0}} (Err stop) old new
 
--- What a text that is written last leaves of the files of reports: after an answer the file of the path has exactly the text, and
--- no other is changed; after a fault of the report no other is changed; after any other fault and out of memory none is.
+-- The files of reports after a text that is written last. After any other fault than one of the report, and after out of memory, no
+-- file is changed. After a fault of the report only the file of the path may be changed. After any other answer this file has
+-- exactly the text, and no other file is changed.
 abbrev pub WritesLast : Outcome → (path text : List ℕ) → (old new : List ℕ → Option (List ℕ)) → Type 0
 WritesLast outcome.NoMemory path text old new = new ≡ old
 WritesLast (outcome.OutsideFault which.Report) path text old new = IsSameBut path old new
 WritesLast (outcome.OutsideFault other) path text old new = new ≡ old
 WritesLast answer path text old new = HasWritten path text old new
 
--- What a run leaves of the files of reports, where this report is said, if any, and this is its file, if it has one.
+-- The files of reports after a run, by the path of its report, if it has one, and the text of its report, if it says one.
 abbrev pub WritesReport : MaybeText → Option (List ℕ) → Outcome → (old new : List ℕ → Option (List ℕ)) → Type 0
 WritesReport Nothing said answer old new = new ≡ old
 WritesReport (Given path) None answer old new = new ≡ old

@@ -22,8 +22,8 @@ abbrev pub AnswersGenerated : Result GeneratedSaid RunFault → Outcome → Type
 AnswersGenerated (Ok said) result = IsSaid result → result ≡ said.outcome
 AnswersGenerated (Err fault) result = result ≡ fault_outcome fault
 
--- What a run did that generates a project, and what it answers and puts: what these events say, of a build and then of a build
--- and its tests over the generated sources before and after their edit.
+-- What a run did that generates a project, and what it answers and puts. Its events are a build, and then a build with its tests,
+-- over the generated sources before and after their edit. Outcome and text follow from these events.
 pub record GeneratesAs (scan : List ℕ → Finding) (answer : Request → Exit) (options : GenerateOptions) (result : Outcome) (puts : Type 0) (events : List Event) (old new : List ℕ) : Type 0 where
   pub said : Result GeneratedSaid RunFault
   pub ran : RanGenerated answer options (first_reading scan options) (second_reading scan options) said events

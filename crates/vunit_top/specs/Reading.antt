@@ -39,8 +39,8 @@ pub data Tool : Type 0 where
   Compiler : Tool
   Simulator : Tool
 
--- what a run is to do: the build, and the tests that follow it; how what became of them is said; the file of a report of the
--- tests, if one is wanted; and the text of warnings
+-- What a run is to do: the build, and the tests that follow it. The other fields say how results are shown, where a report of the
+-- tests is written, if one is wanted, and the text of warnings.
 pub record Testing : Type 0 where
   pub order : Order
   pub plan : TestPlan
@@ -48,9 +48,10 @@ pub record Testing : Type 0 where
   pub report : MaybeText
   pub warnings : List ℕ
 
--- The words are no command line; the program is a child; words or sources are refused; a quantity is over its limit, which is
--- this number; these files are to be listed, in compile order; these tests are to be listed; this text is to be written to
--- the file of this path; this is to be built, with this text of warnings; or it is to be built and tested; or a project is
+-- What words and sources ask for. `Bad`: the words are not a command line. `Child`: the program is this child. `Stops`: words or
+-- sources are refused. `Over`: a quantity is over its limit, which is this number. `Lists`: these files are to be listed, in
+-- compile order. `ListsTests`: these tests are to be listed. `Exports`: this text is to be written to the file of this path.
+-- `Builds`: this order is to be built, with this text of warnings. `Runs`: it is to be built and tested. `Generates`: a project is
 -- to be generated, built and tested.
 pub data Reading : Type 0 where
   Bad : Reading
@@ -173,7 +174,7 @@ generate_task setting = if nat_lt setting.generate FILE_LIMIT then Err (Generate
 abbrev pub setting_task : Setting → Result Task Reading
 setting_task setting = if nat_lt SLOT_LIMIT setting.num_threads then Err (Over limit.Slots SLOT_LIMIT) else if nat_lt 0 setting.generate then generate_task setting else Ok (task_of setting)
 
--- what a setting asks for; words that give none are no command line
+-- the task of a setting; without a setting, the words are not a command line
 abbrev pub maybe_task : Option Setting → Result Task Reading
 maybe_task None = Err Bad
 maybe_task (Some setting) = setting_task setting

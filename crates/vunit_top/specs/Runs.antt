@@ -29,8 +29,9 @@ world_of scan compiler = record { compiler = compiler; records_of = records_in_i
 abbrev pub run_of : List (List ℕ) → Outcome → Bool → List Event → List DiskState → ProgramRun
 run_of words result disk_failed events later = record { words = words; outcome = result; disk_failed = disk_failed; events = compile_part events; tests = test_part events; later = later }
 
--- The started files are those that the settled build asks for: those that have no current record over what it makes of the
--- files that they depend on, and that it doesn't block. The statuses are those that it says.
+-- The started files are exactly the files for which the settled build has a request. Such a file has no current record over what
+-- the settled build makes of its dependencies, and the settled build doesn't block it. The statuses are the statuses of the settled
+-- build.
 pub record IsExact (compiler : Request → Exit) (setting : Work) (events : List Event) : Type 0 where
   pub started : (position : ℕ) → Contains (progress_of setting events).taken position ↔ ((request : Request) × (request_unless compiler setting.graph setting.current position ≡ Some request))
   pub steady : statuses_of setting events ≡ steady_statuses compiler setting.graph setting.current
@@ -41,17 +42,17 @@ pub record WritesNothing (ended : Type 0) (first : DiskState) (later : List Disk
   pub fewer : Shrinks first later
   pub same : ended → last ≡ settled_disk (reads_of first)
 
--- A run that builds over the records of a disk that opening leaves as it is, and commits none, writes nothing.
+-- A run writes nothing if it builds over the records of a disk that opening leaves unchanged, and commits no record.
 abbrev pub RestsFrom : Option Order → ProgramRun → (first last : DiskState) → Type 0
 RestsFrom None run first last = Unit {0}
 RestsFrom (Some order) run first last = order.clean ≡ false → IsRestingDisk first → commits (work_over records_in_image order first) run.events ≡ [] → WritesNothing (HasEnded run.outcome) first run.later last
 
--- What a run did, over the moment of the disk before it and the last one. It is the step of a history, which goes on from
--- that last moment. Where it has ended it was of a graph, its build did so by itself, and each file that is made has a record of its present
--- view in whatever a stop can leave; with a store that is to be emptied that has the records of this build alone. Where it
--- has ended and no refusal halted it, it is exact; and where it is done, or its tests failed, each file is made. Where nothing
--- is due to be written, it writes nothing. From a disk of true records it is right: at each of its moments a stop can leave
--- true records alone, and each compiler is asked what a clean build asks it.
+-- What a run did, over the disk before it and after it. It is a step of a history, which goes on from the disk after it. If the run
+-- has ended, its order is a graph, and its build ran to its end. Each file that is made then has a record of its present view in
+-- whatever a stop can leave. If the store is to be emptied, the disk then has the records of this build alone. If the run has ended
+-- and no refusal halted it, it is exact. If it is done, or its tests failed, each file is made. If no write is due, it writes
+-- nothing. From a disk of true records the run is right: at each of its moments a stop can leave only true records, and each
+-- compiler is started with the request of a clean build.
 pub record RunsAs (scan : List ℕ → Finding) (compiler : Request → Exit) (r : Reading) (run : ProgramRun) (first last : DiskState) : Type 0 where
   pub step : RunStep (world_of scan compiler) (order_of r) run first
   pub ends : last_state first run.later ≡ last

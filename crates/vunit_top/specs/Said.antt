@@ -55,7 +55,7 @@ abbrev pub plan_in : Reading → Option TestPlan
 plan_in (Runs asked) = Some asked.plan
 plan_in _ = None
 
--- what is to be built: nothing, where there is no order
+-- the order that a reading gives, or else the empty order
 abbrev pub order_in : Reading → Order
 order_in reading = unwrap_or (order_of reading) no_order
 
@@ -85,7 +85,7 @@ left_results (Some task) (Given text) = Some (record { path = task.results; text
 abbrev pub child_results : List ℕ → Option Results
 child_results input = if nat_le (length input) input_bytes then left_results (bench_at input) (simulation input).results else None
 
--- what is said where nothing is built
+-- outcome and text of a reading that starts no build and is neither a child nor a generated project
 abbrev pub plain_said : Reading → Option Said
 plain_said Bad = Some (record { outcome = outcome.BadWords; text = usage_text })
 plain_said (Stops reason) = Some (record { outcome = outcome.Refused reason; text = refusal_text reason })
@@ -103,7 +103,7 @@ Says (outcome.OutsideFault which.Out) s old new = AddsPrefix s.text old new
 Says (outcome.OutsideFault other) s old new = new ≡ old
 Says answer s old new = (answer ≡ s.outcome) × (new ≡ old ++ s.text)
 
--- What a run with tests says, as `Says` has it; but where its report couldn't be written, its text was put all the same.
+-- What a run with tests puts, as in `Says`. But if its report couldn't be written, its text was still put.
 abbrev pub SaysRun : Outcome → Said → List ℕ → List ℕ → Type 0
 SaysRun (outcome.OutsideFault which.Report) s old new = new ≡ old ++ s.text
 SaysRun answer s old new = Says answer s old new

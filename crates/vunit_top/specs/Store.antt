@@ -1,4 +1,4 @@
--- The store of the program: which records an image of its disk holds, and which disks opening leaves as they are.
+-- The store of the program: which records an image of its disk holds, and which disks opening leaves unchanged.
 use Rattle.std.specs.Prelude.{List}
 use Rattle.outside.specs.Records.{Record}
 use Rattle.outside.specs.Disks.{DiskState, Image, reads_of}
@@ -8,7 +8,7 @@ use Rattle.store.specs.Stored.{IsResting, requests_in}
 abbrev pub records_in_image : Image → List Record
 records_in_image = requests_in
 
--- Opening leaves a disk as it is: reads give a side of the present form that counts, its last gate is closed, and what it holds
--- asks for no compaction.
+-- Opening leaves a disk unchanged: reads give a side of the present form that counts, its last commit byte is closed, and its
+-- content asks for no compaction.
 abbrev pub IsRestingDisk : DiskState → Type 0
 IsRestingDisk disk = IsResting (reads_of disk)

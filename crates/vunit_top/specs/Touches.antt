@@ -1,11 +1,11 @@
--- Which objects a run may touch: by what words and sources say is to be done, and by words alone.
+-- Which objects a run may touch, by its reading and by its task.
 use Rattle.std.specs.Prelude.{Bool, true, false, Result, Ok, Err}
 use Rattle.run_spec.specs.JournalParts.{is_given}
 use Rattle.vunit_top.specs.declared.words.Task.{Task}
 use Rattle.vunit_top.specs.Acts.{Object, Input, Tree, Disk, Children, Out, Reports}
 use Rattle.vunit_top.specs.Reading.{Reading, Bad, Child, Compiler, Simulator, Stops, Over, Lists, ListsTests, Exports, Builds, Runs, Generates, is_build, may_write, generates}
 
--- what is known of an object, by which one it is
+-- one of six values, by the object
 abbrev pub row : (input files disk children out reports : Bool) → Object → Bool
 row input files disk children out reports Input = input
 row input files disk children out reports Tree = files
@@ -14,8 +14,8 @@ row input files disk children out reports Children = children
 row input files disk children out reports Out = out
 row input files disk children out reports Reports = reports
 
--- Whether a run may touch an object, by its reading. The columns are the input, the tree, the disk, the children, the output
--- and the reports. A limit is passed by words, or by sources.
+-- Whether a run may touch an object, by its reading. The columns are the input, the tree, the disk, the children, the output and
+-- the reports. A quantity in the words or in the sources may be over its limit.
 abbrev pub touches : Reading → Object → Bool
 touches Bad object = row false false false false true false object
 touches (Child Compiler) object = row true false false false true false object
@@ -39,7 +39,7 @@ abbrev pub is_simulator : Reading → Bool
 is_simulator (Child Simulator) = true
 is_simulator reading = false
 
--- Whether a run may touch an object, by words alone: by what is done with the sources, or by what words say alone.
+-- Whether a run may touch an object, by the task that its words give, or by the reading that they give without sources.
 abbrev pub may_touch : Result Task Reading → Object → Bool
 may_touch (Ok task) object = row false true (is_build task) (is_build task) true (may_write task) object
 may_touch (Err reading) object = row (is_child reading) false false (generates (Err reading)) true (is_simulator reading) object

@@ -1,4 +1,4 @@
--- What a call did and said, and what it leaves as it is, by the branch that it took.
+-- What a call did and said, and what it leaves unchanged, by the branch that it took.
 use Rattle.std.proofs.Common.{◌≡◌, false, Result, Ok, Err, refl, sym, ap, subst, ◌∙◌}
 use Rattle.outside.specs.FaultCounts.{no_faults, run_counts}
 use Rattle.vunit_arguments.specs.declared.setting.ArgumentsFault.{ArgumentsFault}
