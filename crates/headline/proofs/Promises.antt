@@ -86,7 +86,7 @@ module _ (compiler : Request → Exit) (work : Work) (graph : IsGraph work.graph
         ∙ cond-true (is_free (clean_build compiler work.graph) it.entry) (Some (compile_request it.entry (built_below (clean_build compiler work.graph) it.entry))) None it.is_free,
   )
 
-  -- what is asked is asked of exactly the files that differ from their record
+  -- the settled build has requests for exactly the files that differ from their record
   pub exactly : (P : Type 0) (position : ℕ) → P ↔ ((request : Request) × (asks position ≡ Some request)) → P ↔ Differs compiler work position
   exactly P position is = (λ p. differs_from position (is.0 p).0 (slice_get work.graph position) refl (is.0 p).1, λ it. is.1 (asked_of position it))
 
@@ -280,7 +280,7 @@ module _ (scan : List ℕ → Finding) (compiler : Request → Exit) where
       );
     }
 
-    -- either, as what is left says
+    -- either case, by what the run left
     pub ran_and_left : (begun middle : Moments) → first ≡ begun.now → run.later ≡ added_since begun middle → last_state first run.later ≡ middle.now → (left : DiskState) → LeavesDisk begun middle left → (new : Sources) →
         RanAll scan compiler 1 (record { sources = sources; disk = first }) (record { sources = new; disk = left })
     ran_and_left begun middle from later ends left (inl same) new = ran_edited left (ends ∙ sym same) new

@@ -1,4 +1,4 @@
--- What is said of the generated project of each size.
+-- The outcome and text of a run with the generated project of each size.
 use Rattle.std.proofs.Common.{◌≡◌, ℕ, zero, suc, ◌+◌, ◌<◌, ◌≤◌, List, length, ap, subst₂, ◌∙◌, arith}
 use Rattle.std.specs.Prelude.{nat_lt}
 use Rattle.std.proofs.lemmas.Bool.{cond-true, lt-ltb}

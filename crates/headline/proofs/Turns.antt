@@ -103,7 +103,7 @@ module _ (call : Call) (scan : List ℕ → Finding) (words : List (List ℕ)) (
   abbrev a : Seen
   a = part call.after
 
-  -- the answer is that of what is said, where the reading is this one
+  -- the outcome follows from the reading, if the reading is this one
   answers_by : (r : Reading) → read ≡ r → IsTold call.tells r → IfSome (said_of scan r call.before call.after) (λ said. IsSaid result → result ≡ said.outcome)
   answers_by r reads = subst (λ (x : Reading). IsTold call.tells x → IfSome (said_of scan x call.before call.after) (λ said. IsSaid result → result ≡ said.outcome)) reads did.answers
 

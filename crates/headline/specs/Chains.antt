@@ -58,10 +58,10 @@ pub record RanTwice (scan : List ℕ → Finding) (compiler : Request → Exit) 
   pub fresh : (order_in (reading scan words sources)).clean ≡ false → HasBuilt outcomes.first → compile_part after.events ≡ []
   pub idle : (order_in (reading scan words sources)).clean ≡ false → HasBuilt outcomes.first → plan_in (reading scan words sources) ≡ None → after.events ≡ []
 
--- A run is stopped at a moment of its disk, and another run finds what that stop has left. Whatever prefix of its events the
--- stop leaves, the two are a history with their tests. The second run starts no file of which is asked what a record has
--- that was acknowledged at that moment. Where it is done, or its tests failed, it starts exactly the files that the settled build
--- asks for over the records of the disk that is left; where it is to build all anew, no record counts.
+-- A run is stopped at a moment of its disk, and another run finds what that stop has left. Whatever prefix of its events the stop
+-- leaves, the two are a history with their tests. The second run starts no file whose request is in a record that was acknowledged
+-- at that moment. If the second run is done, or its tests failed, it starts exactly the files for which the settled build has a
+-- request. The settled build works over the records of the disk that is left; if all is to be built anew, no record counts.
 pub record RanAfterStop (scan : List ℕ → Finding) (compiler : Request → Exit) (words : List (List ℕ)) (sources : Sources) (outcomes : Outcomes) (stopped : StoppedDisk) (old new : ChainState) : Type 0 where
   pub before : List Event
   pub after : Deeds

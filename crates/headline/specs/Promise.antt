@@ -68,8 +68,8 @@ runs_in (Edited new ∷ steps) = runs_in steps
 runs_in (Ran run ∷ steps) = suc (runs_in steps)
 runs_in (Stopped run stop ∷ steps) = suc (runs_in steps)
 
--- What happened from one state of a project to another, with so many runs: a history of these, of edits and of stops. From a
--- disk of true records, as an empty one is, each of its runs keeps the promise.
+-- What happened from one state of a project to another, with `runs` runs: a history of runs, edits and stops. From a disk of true
+-- records, such as an empty disk, each of its runs keeps the promise.
 pub record RanAll (scan : List ℕ → Finding) (compiler : Request → Exit) (runs : ℕ) (old new : ProjectState) : Type 0 where
   pub steps : List HistoryStep
   pub count : runs_in steps ≡ runs
@@ -78,7 +78,7 @@ pub record RanAll (scan : List ℕ → Finding) (compiler : Request → Exit) (r
   pub disk : disk_after old.disk steps ≡ new.disk
   pub promise : IsFaithfulDisk compiler records_in_image old.disk → AllKeepPromise scan compiler old.sources old.disk steps
 
--- What a stop leaves of a disk after a moment of it: the disk as it is, or what a kill or a loss of power at some moment since
--- then leaves.
+-- What a stop leaves of a disk after a moment of it: the unchanged disk, or what a kill or a loss of power at some moment since
+-- `begun` leaves.
 abbrev pub LeavesDisk : (begun old : Moments) → DiskState → Type 0
 LeavesDisk begun old left = (left ≡ old.now) ⊎ ((moment : DiskState) × IsMoment moment begun.now (added_since begun old) × IsLeft moment left)

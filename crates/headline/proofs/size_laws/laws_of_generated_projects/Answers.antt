@@ -1,4 +1,4 @@
--- What is said of the generated project of each size.
+-- The outcome and text of a run with the generated project of each size.
 use Rattle.headline.proofs.Answered.{answered}
 use Rattle.headline.proofs.SaidOfSizes.{said_of}
 use Rattle.headline.proofs.size_laws.laws_of_generated_projects.Goals as goal
