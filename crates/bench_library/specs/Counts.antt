@@ -10,14 +10,14 @@ use Rattle.vhdl_spec.specs.References.{refs_of}
 use Rattle.vhdl_spec.specs.Scans.{IsScanOf}
 use Rattle.vhdl_spec.specs.Units.{AreTokensOf, Element, IsOutline, HasUnitFault, roles_of, units_of}
 
--- the text has a cut into so many tokens and line comments
+-- the text has a cut with this number of tokens and of line comments
 pub record HasTokens (text : List ℕ) (tokens comments : ℕ) : Type 0 where
   pub lexical_elements : List LexicalElement
   pub cut : IsCut text lexical_elements
   pub tokens_counted : tokens ≡ length (tokens_of lexical_elements)
   pub comments_counted : comments ≡ length (comments_of lexical_elements)
 
--- the tokens of the text's cut have an outline with so many units
+-- the tokens of the text's cut have an outline with this number of units
 pub record HasUnits (text : List ℕ) (units : ℕ) : Type 0 where
   pub tokens : Tokens
   pub cut : AreTokensOf text tokens
@@ -29,7 +29,7 @@ pub record HasUnits (text : List ℕ) (units : ℕ) : Type 0 where
 unfoldable pub ref_count : List ℕ → Scan → ℕ
 ref_count text scan = sum_by (λ unit. length (refs_of text scan.tokens.list unit)) scan.units
 
--- the text has a scan whose units have so many references, modulo 2^64
+-- the text has a scan whose units have this number of references, modulo 2^64
 pub record HasRefs (text : List ℕ) (refs : ℕ) : Type 0 where
   pub scan : Scan
   pub is_scan : IsScanOf text scan
@@ -50,7 +50,7 @@ pub record HasGrammarFault (text : List ℕ) : Type 0 where
 abbrev pub IsFaulty : List ℕ → Type 0
 IsFaulty text = HasLexicalFault text ⊎ HasGrammarFault text
 
--- what the references of a text say: so many where it is whole, and a fault where it is faulty
+-- the references of a text: their number if the text is whole, and a fault if it is faulty
 pub record IsReferred (text : List ℕ) (found : Referred) : Type 0 where
   pub counted : found.whole ≡ true → HasRefs text found.refs
   pub faulty : found.faulty ≡ true → IsFaulty text

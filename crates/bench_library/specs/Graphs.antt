@@ -1,4 +1,4 @@
--- What is told to C of the graph of a project.
+-- What C is told of the graph of a project.
 use Rattle.std.specs.Prelude.{◌≡◌, ℕ, ◌-◌, true, List, Ok, length, slice_get}
 use Rattle.std.specs.Option.{option_map_or}
 use Rattle.base.specs.declared.design.Scan.{Scan}
@@ -18,7 +18,7 @@ use Rattle.bench_library.specs.Projects.{parts_at}
 abbrev pub last_deps : List Entry → ℕ
 last_deps graph = option_map_or (λ entry. length entry.deps) (slice_get graph (length graph - 1)) 0
 
--- the files have an order, and their graph in it so many files, of which the last depends on so many
+-- the files have an order; their graph in this order has `count` files, and its last file has `deps` dependencies
 pub record HasGraph (files : List ProjectFile) (texts edges : List (List ℕ)) (count deps : ℕ) : Type 0 where
   pub order : List ℕ
   pub ordered : file_order edges ≡ Ordered order
@@ -30,12 +30,12 @@ pub record HasCycle (edges : List (List ℕ)) : Type 0 where
   pub files : List ℕ
   pub cyclic : file_order edges ≡ Cyclic files
 
--- what is told by what files depend on
+-- the result by the dependencies of the files: a graph if it is whole, and a cycle if it is cyclic
 pub record IsGraphed (files : List ProjectFile) (texts edges : List (List ℕ)) (told : Graphed) : Type 0 where
   pub whole : told.whole ≡ true → HasGraph files texts edges told.files told.deps
   pub cyclic : told.cyclic ≡ true → HasCycle edges
 
--- what is told by the links of texts
+-- the result by the dependencies that the texts link to
 pub record TellsLinks (project : Project) (texts : List (List ℕ)) (told : Graphed) : Type 0 where
   pub scans : List Scan
   pub are : AreScansOf texts scans
@@ -44,13 +44,13 @@ pub record TellsLinks (project : Project) (texts : List (List ℕ)) (told : Grap
   pub links : link_of project (link_units 0 project.files texts scans) ≡ Ok (record { edges = edges; warnings = warnings })
   pub graph : IsGraphed project.files texts edges told
 
--- what is told of the project that a project file says, whose files are the parts of a text
+-- the result for the project of a project file, whose files are the parts of a text
 pub record IsTold (csv text ends : List ℕ) (told : Graphed) : Type 0 where
   pub project : Project
   pub said : csv_project csv ≡ Ok project
   pub links : TellsLinks project (parts_at text 0 ends) told
 
--- a project file says a project, whose files are the parts of a text, and there are so many of these
+-- a project file gives a project, whose files are the parts of a text; there are `count` parts
 pub record HasSources (csv text ends : List ℕ) (count : ℕ) : Type 0 where
   pub project : Project
   pub said : csv_project csv ≡ Ok project

@@ -1,4 +1,4 @@
--- What is told to C of a project that is one text, with the places where its files end.
+-- What C is told of a project that is one text, with the offsets at which its files end.
 use Rattle.std.specs.Prelude.{◌≡◌, ℕ, ◌-◌, Bool, List, [], ◌∷◌, codes, drop, length, take}
 use Rattle.std.specs.List.{All}
 use Rattle.base.specs.declared.design.Scan.{Scan}

@@ -1,4 +1,4 @@
--- So far so many files of the library.
+-- The number of files of the library so far.
 use Rattle.std.proofs.Common.{◌≡◌, codes, length}
 use Rattle.std.specs.List.{All}
 use Rattle.bench_library.proofs.scopes.files_of.Given as goal
