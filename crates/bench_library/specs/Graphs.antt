@@ -1,4 +1,4 @@
--- What C is told of the graph of a project.
+-- The result that C gets for the graph of a project.
 use Rattle.std.specs.Prelude.{◌≡◌, ℕ, ◌-◌, true, List, Ok, length, slice_get}
 use Rattle.std.specs.Option.{option_map_or}
 use Rattle.base.specs.declared.design.Scan.{Scan}

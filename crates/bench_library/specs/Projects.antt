@@ -1,4 +1,4 @@
--- What C is told of a project that is one text, with the offsets at which its files end.
+-- The results that C gets for a project that is one text, with the offsets at which its files end.
 use Rattle.std.specs.Prelude.{◌≡◌, ℕ, ◌-◌, Bool, List, [], ◌∷◌, codes, drop, length, take}
 use Rattle.std.specs.List.{All}
 use Rattle.base.specs.declared.design.Scan.{Scan}
