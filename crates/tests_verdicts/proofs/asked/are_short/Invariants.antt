@@ -1,4 +1,4 @@
--- The names so far, and what is left.
+-- The names so far, and the rest.
 use Rattle.std.proofs.Common.{◌≡◌, ◌+◌, length, take}
 use Rattle.std.specs.Prelude.{sum_by}
 use Rattle.base.specs.declared.limits.TheConstants.{TEXT_LIMIT}
