@@ -1,4 +1,4 @@
--- The examples of "Reading: what words and sources say", of what is to be done.
+-- The examples of the tasks that words and sources give.
 use Rattle.std.specs.Prelude.{◌≡◌, ◌∷◌, true, false, [], Ok, Err, codes}
 use Rattle.base.specs.declared.child.MaybeText.TheVariants.{Given}
 use Rattle.project_reading.specs.declared.query.QueryKind.{QueryKind}
@@ -9,7 +9,7 @@ use Rattle.base_outcomes.specs.declared.outcome.Limit.TheVariants as limit
 use Rattle.project_reading.specs.declared.query.QueryKind.TheVariants as query_kind
 use Rattle.vunit_top.specs.declared.words.Task.TheVariants as task
 
--- so much is wanted, of all tests
+-- a query of this kind for all tests
 abbrev of_all : QueryKind → Query
 of_all much = record { query_kind = much; patterns = codes "*" ∷ [] }
 

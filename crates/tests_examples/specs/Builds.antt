@@ -19,13 +19,13 @@ pub record CompilerRequests : Type 0 where
   pub words : a_request.command ≡ command
   pub no_results : a_request.results ≡ Nothing
 
--- what becomes of each file
+-- the result of each file
 pub record CleanBuilds : Type 0 where
   pub made : clean_build accepting files ≡ Made a_built ∷ Made b_built ∷ []
   pub refused : clean_build refusing files ≡ Refused 1 (codes "no") ∷ Blocked ∷ []
   pub of_made : built_of (Some (Made a_built)) ≡ Some a_built
 
--- what is asked for each file
+-- the request for each file
 pub record CleanRequests : Type 0 where
   pub second : clean_request accepting files 1 ≡ Some b_request
   pub blocked : clean_request refusing files 1 ≡ None

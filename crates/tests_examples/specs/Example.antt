@@ -99,7 +99,7 @@ Rb = recorded b_file (a_built ∷ []) (codes "2")
 abbrev pub Rw : Record
 Rw = recorded (file a_name (codes "w") []) [] (codes "8")
 
--- the build of a and b, nothing recorded, with so many slots
+-- the build of a and b over no record, with this number of slots
 abbrev pub work_with : ℕ → Bool → Work
 work_with slots keep_going = record { graph = files; current = none_current; slots = slots; keep_going = keep_going }
 

@@ -29,7 +29,7 @@ project_file_of it = record { name = it; command = command }
 abbrev letter_file : ℕ → List ℕ → Entry
 letter_file letter deps = file (name letter) (letter ∷ []) deps
 
--- three packages, of which the third depends on the first alone
+-- three packages; the third depends only on the first
 abbrev packages : List Entry
 packages = letter_file 97 [] ∷ letter_file 98 [] ∷ letter_file 99 (0 ∷ []) ∷ []
 

@@ -43,7 +43,7 @@ pub record EndedRuns : Type 0 where
 abbrev passed_said : Said
 passed_said = record { outcome = outcome.Done; text = codes "Compile passed\n" }
 
--- so many faults of the tree, and none of any other object
+-- this number of faults of the tree, and no fault of any other object
 abbrev tree_counts : ℕ → RunFaultCounts
 tree_counts count = record no_faults { tree = count }
 

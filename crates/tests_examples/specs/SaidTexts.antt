@@ -18,7 +18,7 @@ refused_a = Started 7 a_request ∷ Ended 7 (exit 1 (codes "no")) ∷ []
 abbrev a_recorded : Work
 a_recorded = work_of (λ it. latest it (Ra ∷ [])) files 1 false
 
--- what became of files
+-- the statuses of files
 pub record FileStatuses : Type 0 where
   pub refused : statuses_of one_slot refused_a ≡ Refused 1 (codes "no") ∷ Left ∷ []
   pub compiled : statuses_of a_recorded (Started 8 b_request ∷ Ended 8 (exit 0 (codes "2")) ∷ []) ≡ Fresh ∷ Compiled ∷ []

@@ -67,7 +67,7 @@ pub record ShelvedRequests : Type 0 where
   -- a payload whose texts are there already, and one over a product that isn't there, stand for nothing
   pub repeated : requests_among (first ∷ first ∷ []) ≡ recorded a_file [] (codes "y") ∷ []
   pub first_missing : requests_among (second ∷ []) ≡ []
-  -- a product alone is no record, and one may be over it
+  -- a product alone gives no record, but a record may be over it
   pub product_alone : requests_among (product ∷ []) ≡ []
   pub over_alone : requests_among (product ∷ over_product ∷ []) ≡ recorded same_text (y_built ∷ []) (codes "z") ∷ []
   pub adds_itself : is_request bare_table first_draft ≡ true
