@@ -1,4 +1,4 @@
--- The examples of the tasks that words and sources give.
+-- The examples of "Reading: what words and sources say" for the task.
 use Rattle.std.specs.Prelude.{◌≡◌, ◌∷◌, true, false, [], Ok, Err, codes}
 use Rattle.base.specs.declared.child.MaybeText.TheVariants.{Given}
 use Rattle.project_reading.specs.declared.query.QueryKind.{QueryKind}

@@ -47,7 +47,7 @@ pub record AskedFiles : Type 0 where
   pub same : is_same_asked Rb.asked (asked_of b_file (a_built ∷ [])) ≡ true
   pub not_same : is_same_asked Rb.asked (asked_of b_file (other_built ∷ [])) ≡ false
 
--- the current artefact of a file: 1 at 0, 2 at 1 over a's 1, and nothing at 2, which is no file's position
+-- the current artefact of a file: 1 at 0, 2 at 1 over a's 1, and nothing at 2, which is past the last file
 pub record CurrentFiles : Type 0 where
   pub first : current_by_request (over (Ra ∷ Rb ∷ [])) files 0 [] ≡ Some (codes "1")
   pub second : current_by_request (over (Ra ∷ Rb ∷ [])) files 1 (a_built ∷ []) ≡ Some (codes "2")
