@@ -1,0 +1,5 @@
+-- The lemmas.
+pub mod Spelling
+pub mod Deciding
+pub mod Once
+pub mod Examples

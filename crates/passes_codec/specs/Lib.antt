@@ -1,0 +1,4 @@
+-- The definitions.
+pub mod Forms
+pub mod Ranges
+pub mod PassTables
