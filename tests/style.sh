@@ -1,8 +1,8 @@
 #!/bin/sh
 # Documents are in plain English: a page never uses the phrases below, and no sentence has more than 35 words. Fenced blocks,
 # quotations, links and the pages made of comments in the sources do not count; code between backticks is one word. Comments of
-# scripts, wrappers and benches have at most 50 such faults; indented lines in them do not count. Ends with 0, with 1 if there
-# are faults, and with 77 if python3 is missing.
+# crates, scripts, wrappers and benches have at most 50 such faults; indented lines in them do not count. Ends with 0, with 1 if
+# there are faults, and with 77 if python3 is missing.
 cd -- "${TOP:-$(dirname -- "$0")/..}" || exit 1
 . tests/support/needs.sh
 needs python3
@@ -11,7 +11,8 @@ import ast, inspect, pathlib, re, sys
 
 LONG = 35
 IN_COMMENTS = 50
-FOLDERS = ("wrappers", "bin", "tests", "bench", ".ci")
+FOLDERS = ("crates", "wrappers", "bin", "tests", "bench", ".ci")
+MARKS = {".rt": r"//[/!]?", ".antt": "--", ".vhd": "--"}  # "#" in all others
 MADE = ("docs/proof/DEFINITIONS.md", "docs/proof/CALLS.md")  # by tests/support/proof_pages.py
 PHRASES = re.compile(r"\b(?:" + "|".join((
     # statuses without their noun: say "out of date", "up to date", "unchanged"
@@ -53,20 +54,20 @@ def faults(text):
                 yield f"{count} words: {sentence[:100]} .."
 
 def comments(path, text):
-    """The comments of a script, a module or a package in VHDL, without their indented lines: blocks of lines, and docstrings."""
+    """The comments of a script, or of a module in Rattle, Python or VHDL, without their indented lines: blocks of lines, and docstrings."""
     is_python = path.suffix == ".py" or "python" in text.partition("\n")[0]
     if is_python:
         tree = ast.walk(ast.parse(text))
         documented = (ast.Module, ast.ClassDef, ast.FunctionDef)
         yield from (inspect.cleandoc(ast.get_docstring(node) or "") for node in tree if isinstance(node, documented))
-    mark = "--" if path.suffix == ".vhd" else "#"
+    mark = MARKS.get(path.suffix, "#")
     yield from re.sub(rf"^ *{mark} ?", "", "\n".join(
         line if re.match(rf" *{mark}(?!!)", line) else "" for line in text.splitlines()), flags=re.M).split("\n\n")
 
 def faults_of_comments():
     """The faults of all comments."""
     for path in sorted(path for folder in FOLDERS for path in pathlib.Path(folder).rglob("*")):
-        if path.suffix in ("", ".py", ".sh", ".vhd") and path.is_file() and "data" not in path.parts:
+        if path.suffix in ("", ".py", ".sh", *MARKS) and path.is_file() and "data" not in path.parts:
             for text in comments(path, path.read_text(errors="replace")):
                 for fault in faults(re.sub(r"^(?:  |\t).*$", "\n", text, flags=re.M)):
                     yield f"{path}: {fault}"
