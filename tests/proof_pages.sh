@@ -50,7 +50,7 @@ plant DEFINITIONS base/specs/Graphs.antt 's/^-- At most 4,096 files/-- Some file
 plant CALLS vunit_top/src/top.rt 's/^\(    ensures \)running {/\1ended {/'
 plant CALLS order/src/ordering.rt 's,^/// ,/// Perhaps: ,'
 plant DEFINITIONS order/src/ordering.rt 's/GivesOrder/GivesAnyOrder/'
-plant DEFINITIONS base/specs/Names.antt '/^-- a number is no less/d'
+plant DEFINITIONS base/specs/Names.antt '/^-- a number lies between two bounds/d'
 [ "$(count_bare "$room/copy")" -gt "$bare" ] || { echo "a comment that is gone isn't seen"; wrong=1; }
 python3 "$top/tests/support/proof_pages.py" --bare "$room/copy" 2>"$room/complaint" | :
 [ ! -s "$room/complaint" ] || { echo "--bare doesn't end quietly where its reader closes the pipe"; wrong=1; }
