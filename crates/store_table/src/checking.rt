@@ -62,7 +62,7 @@ pub fn number_of_ref(
 }
 
 /// The text that is meant, where it is there or new as it says.
-fn text_of_source<'a>(
+pub fn text_of_source<'a>(
     held: &'a HeldPayloads<'_>,
     texts: &LocatedTexts,
     bytes: &'a [u8],

@@ -159,7 +159,7 @@ impl<'g> HeldPayloads<'g> {
     }
 
     /// Adds all bytes of a payload at the end, which are moved in. After `NoMemory` the payloads are unchanged.
-    pub(crate) fn put_whole(&mut self, payload: Text) -> Result<(), NoMemory>
+    pub fn put_whole(&mut self, payload: Text) -> Result<(), NoMemory>
         ensures segments { OnOk result (self.new.segments ≡ self.old.segments ++ payload ∷ []) }
         ensures payloads { OnOk result (self.new.payloads ≡ self.old.payloads ++ payload ∷ []) }
         ensures borrowed { self.new.borrowed ≡ self.old.borrowed }

@@ -16,7 +16,7 @@ use base_collections::Numbered;
 use store_codec::{ProductRanges, RequestRanges};
 
 /// Puts a text at the end, if it is new.
-fn put_ref(texts: &mut LocatedTexts, held: &HeldPayloads<'_>, at: usize, source: TextRange)
+pub fn put_ref(texts: &mut LocatedTexts, held: &HeldPayloads<'_>, at: usize, source: TextRange)
     requires room { 0 < text_room texts.old }
     requires at { at < length held.now.segments }
     requires texts { AreTextsLocated held.now.segments texts.old }

@@ -56,7 +56,7 @@ impl LocatedTable {
         ensures names { self.new.names.keys ≡ self.old.names.keys }
         ensures room { OnOk result (HasRowRoom self.new) }
     {
-        self.texts.reserve()?;
+        self.texts.reserve(2)?;
         self.products.reserve()?;
         self.rows.reserve(1)?;
         self.latest.reserve()

@@ -38,14 +38,14 @@ impl LocatedTexts {
         }
     }
 
-    /// Makes room for two more texts. The texts are unchanged.
-    pub fn reserve(&mut self) -> Result<(), NoMemory>
+    /// Makes room for `count` more texts. The texts are unchanged.
+    pub fn reserve(&mut self, count: usize) -> Result<(), NoMemory>
         ensures indices { self.new.indices.items ≡ self.old.indices.items }
         ensures splits { self.new.index.splits ≡ self.old.index.splits }
-        ensures room { OnOk result (2 ≤ text_room self.new) }
+        ensures room { OnOk result (count ≤ text_room self.new) }
     {
-        self.indices.reserve(2)?;
-        self.index.reserve(2)
+        self.indices.reserve(count)?;
+        self.index.reserve(count)
     }
 
     /// Adds a text at the end, by its split. It takes no memory.
