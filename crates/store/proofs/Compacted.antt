@@ -9,6 +9,7 @@ use Rattle.outside.specs.Disks.{AtAnyMoment, DiskState, Image, IsEither, Moments
 use Rattle.outside.specs.declared.disk.Side.{Side}
 use Rattle.outside.specs.declared.records.StoreFault.{StoreFault}
 use Rattle.outside.specs.declared.records.StoreFault.TheVariants as fault
+use Rattle.store_journal.specs.DeadBytes.{AsksAt, HasManyDead, capped_length, closed_length, dead_limit}
 use Rattle.store_journal.specs.Forms.{has_form}
 use Rattle.store_journal.specs.Payloads.{block, counting, generation_of, payloads}
 use Rattle.store_journal.proofs.Forms.{no_form_payloads}
@@ -18,7 +19,7 @@ use Rattle.store_codec.specs.Forms.{request_payload_bytes}
 use Rattle.outside.specs.Records.{Record as RequestRecord, latest as latest_request, latest_alone as latest_requests}
 use Rattle.store_codec.specs.RecordTables.{record_table_of, requests_among}
 use Rattle.store.specs.Held.{latest_held}
-use Rattle.store.specs.Stored.{AreAllOrLatest, AsksAt, AsksCompaction, HasCompactedOver, HasManyDead, ImageAsksCompaction, IsRequestStoreInStep, IsResting, RequestStoreState, capped_length, closed_length, dead_limit, live_length, opened_generation, own_requests, requests_in}
+use Rattle.store.specs.Stored.{AreAllOrLatest, AsksCompaction, HasCompactedOver, ImageAsksCompaction, IsRequestStoreInStep, IsResting, RequestStoreState, live_length, opened_generation, own_requests, requests_in}
 use Rattle.store.specs.StoreLaws.{in_step_live, live_requests}
 use Rattle.store.proofs.LatestRequests.{compacted-latest_requests, latest_request-latest_requests}
 use Rattle.store.proofs.RequestMoments.{compact_leaves}

@@ -15,7 +15,7 @@ use Rattle.store_form_2.specs.ViewRecords.{latest_views}
 use Rattle.store.specs.Taking.{taken_payloads}
 use Rattle.store.specs.StoreLaws.{live_requests}
 use Rattle.store.specs.Stored.{kept_payloads, own_requests, requests_in}
-use Rattle.store.proofs.Losing.{losses_as}
+use Rattle.store_journal.proofs.Losing.{losses_as}
 
 both_and : (b : Bool) → (b && false) ≡ false
 both_and true = refl

@@ -22,7 +22,6 @@ pub mod Following
 pub mod RowParts
 pub mod ContentsRows
 pub mod LatestRequests
-pub mod Losing
 pub mod Kept
 pub mod RequestMoments
 pub mod RequestsAdded

@@ -1,8 +1,7 @@
 -- What stops can leave of a store, from what they leave of its journal.
 use Rattle.std.proofs.Common.{◌≡◌, ℕ, true, List, [], ◌∷◌, ◌++◌, refl, sym, ap, subst, ◌∙◌, inl, inr}
 use Rattle.std.specs.Prelude.{Result}
-use Rattle.std.specs.List.{AllByRecursion}
-use Rattle.outside.specs.Disks.{DiskState, Image, IsEither, Moments, AtAnyMoment, NeverLoses, OpensWith, reads_of, IsImage, AreSound, IsDurable, IsSound}
+use Rattle.outside.specs.Disks.{DiskState, Image, IsEither, Moments, AtAnyMoment, NeverLoses, OpensWith, reads_of, IsImage, IsDurable}
 use Rattle.outside.proofs.MomentLaws.{call_loses_nothing, joined_losses, joined_moments, started_moments, weaker_moments}
 use Rattle.store_journal.specs.Payloads.{payloads}
 use Rattle.store_journal.specs.Forms.{CountsNone, CountsSameOrNone, HoldsForms, HoldsFormsOf, OpensEmpty, has_form}
@@ -12,7 +11,7 @@ use Rattle.store_codec.specs.RecordTables.{requests_among}
 use Rattle.store.specs.StoreLaws.{in_step_live, live_requests, request_store_durable}
 use Rattle.store.specs.Stored.{AreAllOrLatest, HasRequestsOf, IsRequestStoreInStep, RequestStoreState, own_requests, requests_in}
 use Rattle.store.proofs.Kept.{moments_of, requests_held, requests_none, requests_same}
-use Rattle.store.proofs.Losing.{always_had, losses_as}
+use Rattle.store_journal.proofs.Losing.{always_had, losses_as}
 use Rattle.store.proofs.RequestsAdded.{no_longer, none_among}
 
 module _ (old new : Moments) (reads : Image) where
@@ -120,14 +119,6 @@ module _ (old middle new : Moments) (same : requests_in (reads_of middle.now) �
   pub then_opens : OpensWith old middle (λ image. AreAllOrLatest (requests_in (reads_of old.now)) (requests_in image)) → OpensWith old new (λ image. AreAllOrLatest (requests_in (reads_of old.now)) (requests_in image))
   then_opens (inl goes) = inr (middle, goes, second)
   then_opens (inr later) = inr (later.0, later.1, joined_moments later.0 middle new (λ image. AreAllOrLatest (requests_in (reads_of old.now)) (requests_in image)) later.2 second)
-
--- what reads give is an image of each sound moment
-last_of : (P : DiskState → Type 0) (states : List DiskState) (last : DiskState) → AllByRecursion P (states ++ last ∷ []) → P last
-last_of P [] last all = all.0
-last_of P (first ∷ rest) last all = last_of P rest last all.1
-
-pub reads_image : (moments : Moments) → AreSound moments → IsImage moments.now (reads_of moments.now)
-reads_image moments sound = (let now = last_of IsSound moments.past moments.now sound in record { a = now.a.image; b = now.b.image })
 
 -- a disk that is emptied: the records of what reads gave, or none,
 pub empty_opens : {E : Type 0} (result : Result JournalState E) (old new : Moments) → OpensEmpty 3 2 result old new → OpensWith old new (λ image. IsEither (requests_in image) (requests_in (reads_of old.now)) [])

@@ -89,7 +89,7 @@ compacted_by table plan = record { texts = map (text_of table.texts) plan.texts.
 abbrev pub with_compacted_payload : CompactedSoFar → RequestPayload → CompactedSoFar
 with_compacted_payload so_far payload = record { texts = so_far.texts; products = so_far.products; payloads = so_far.payloads ++ payload ∷ [] }
 
--- how many bytes payloads take on a side, each behind its gate
+-- how many bytes payloads take on a side, each after its commit byte
 abbrev pub blocks_length : List RequestPayload → ℕ
 blocks_length payloads = length (flat_map block (map request_payload_bytes payloads))
 

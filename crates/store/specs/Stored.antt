@@ -1,6 +1,5 @@
 -- The records of a store of requests.
-use Rattle.std.specs.Prelude.{◌≡◌, ℕ, ◌+◌, ◌-◌, ◌^◌, ◌<◌, min, Bool, true, false, List, [], length, Option, Some, Result, Ok, Err, slice_index_or, if◌then◌else◌}
-use Rattle.std.specs.List.{flat_map}
+use Rattle.std.specs.Prelude.{◌≡◌, ℕ, ◌<◌, Bool, true, false, List, [], length, Option, Some, Result, Ok, Err, slice_index_or, if◌then◌else◌}
 use Rattle.std.specs.Option.{option_map_or}
 use Rattle.base.specs.declared.file.FileName.{FileName}
 use Rattle.base.specs.declared.graph.Entry.{Entry}
@@ -8,8 +7,9 @@ use Rattle.base.specs.declared.memory.DiskFailed.{DiskFailed}
 use Rattle.outside.specs.declared.records.StoreFault.{StoreFault}
 use Rattle.outside.specs.declared.records.StoreFault.TheVariants as fault
 use Rattle.outside.specs.Disks.{DiskState, Image, image_side, reads_of}
+use Rattle.store_journal.specs.DeadBytes.{AsksAt, closed_length}
 use Rattle.store_journal.specs.Forms.{older_counts}
-use Rattle.store_journal.specs.Payloads.{block, counting, generation_of, payloads}
+use Rattle.store_journal.specs.Payloads.{counting, generation_of, payloads}
 use Rattle.store_journal.specs.Journals.{IsHealthy, IsInStep, JournalState}
 use Rattle.store_codec.specs.Compaction.{compacted_requests}
 use Rattle.store_codec.specs.Ranges.{request_in_ranges}
@@ -105,29 +105,7 @@ abbrev pub after_committing : {T : Type 0} → Result T DiskFailed → RequestRe
 after_committing (Ok value) new latest_of = with_newer new latest_of
 after_committing (Err fault) new latest_of = latest_of
 
--- how many dead bytes a store may have, whatever its live ones
-abbrev pub dead_limit : ℕ
-dead_limit = 1048576
-
--- of `len` bytes `live` are live; the dead ones are more than these and more than the limit
-pub record HasManyDead (len live : ℕ) : Type 0 where
-  pub many : dead_limit < len - live
-  pub most : live < len - live
-
--- A side of this generation is to be compacted: many of its bytes are dead, and there is a next generation.
-pub record AsksAt (generation len live : ℕ) : Type 0 where
-  pub next : generation + 1 < 2 ^ 64
-  pub dead : HasManyDead len live
-
--- how many bytes a side has up to and with its closed gate
-abbrev pub closed_length : List (List ℕ) → ℕ
-closed_length payloads = 19 + length (flat_map block payloads)
-
--- the length of a side whose blocks have this many bytes, up to the greatest number of 64 bits
-abbrev pub capped_length : ℕ → ℕ
-capped_length blocks = min (2 ^ 64 - 1) (blocks + 19)
-
--- the bytes that compaction would leave, up to and with the closed gate
+-- the bytes that compaction would leave, up to and with the closed commit byte
 abbrev pub live_length : List (List ℕ) → ℕ
 live_length payloads = closed_length (compacted_requests (requests_among payloads))
 

@@ -5,6 +5,7 @@ ghost use Rattle.base.specs.declared.file.FileName.{FileName};
 ghost use Rattle.base.specs.declared.graph.Entry.{Entry};
 ghost use Rattle.outside.specs.Counts.{StoreCounts};
 ghost use Rattle.outside.specs.Disks.{AtAnyMoment, NeverLoses, reads_of};
+ghost use Rattle.store_journal.specs.DeadBytes.{AsksAt, capped_length};
 ghost use Rattle.store_journal.specs.Forms.{has_form};
 ghost use Rattle.store_journal.specs.Journals.{CountsAs, other_side};
 ghost use Rattle.store_journal.specs.Payloads.{payloads};
@@ -13,7 +14,7 @@ ghost use Rattle.store_codec.specs.Compaction.{compacted_requests};
 ghost use Rattle.outside.specs.Records.{latest_alone as latest_requests};
 ghost use Rattle.store_codec.specs.RecordTables.{requests_among};
 ghost use Rattle.store.specs.Held.{AreBorrowedBy, latest_held};
-ghost use Rattle.store.specs.Stored.{AreAllOrLatest, AsksAt, AsksCompaction, HasCompactedOver, HasManyDead, IsRequestStoreInStep, IsResting, OnNoMemory, capped_length, has_disk_failed, own_requests, store_of};
+ghost use Rattle.store.specs.Stored.{AreAllOrLatest, AsksCompaction, HasCompactedOver, IsRequestStoreInStep, IsResting, OnNoMemory, has_disk_failed, own_requests, store_of};
 
 use crate::reading::FORM;
 use crate::{CompactionPlan, LoadedStore};
@@ -21,10 +22,7 @@ use base::NoMemory;
 use outside::{Disk, StoreFault};
 use std::alloc::Global;
 use std::mem;
-use store_journal::{Journal, ReadySide};
-
-/// How many dead bytes a side may have, whatever its live ones.
-const DEAD_LIMIT: u64 = 1_048_576;
+use store_journal::{DEAD_LIMIT, Journal, ReadySide};
 
 /// What compaction keeps: what is held, and the side that is to be written.
 #[derive(Drop)]
@@ -128,10 +126,7 @@ fn is_asked(journal: &Journal, plan: &CompactionPlan) -> bool
     ensures { IsTrue result
         ↔ AsksAt journal.now.generation journal.now.len (capped_length plan.now.len) }
 {
-    if journal.generation() == u64::MAX {
-        return false;
-    }
-    asks(journal.length(), plan.len.saturating_add(19))
+    journal.asks_compaction(plan.len.saturating_add(19))
 }
 
 /// Compacts where what is held asks for it.
@@ -190,18 +185,6 @@ fn hold<'g>(held: &mut LoadedStore<'g>, made: LoadedStore<'g>)
     ensures { held.new ≡ made.entry }
 {
     discard(mem::replace(held, made));
-}
-
-/// Whether `len` bytes, with `live` live ones, need compaction: the dead bytes are more than `DEAD_LIMIT` and more than the live
-/// ones.
-fn asks(len: u64, live: u64) -> bool
-    ensures { IsTrue result ↔ HasManyDead len live }
-{
-    let dead = len.saturating_sub(live);
-    if dead <= DEAD_LIMIT {
-        return false;
-    }
-    live < dead
 }
 
 /// Drops a loaded store.

@@ -28,3 +28,4 @@ pub mod Changing
 pub mod Stays
 pub mod Counted
 pub mod LiveForms
+pub mod Losing

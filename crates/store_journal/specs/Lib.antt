@@ -6,3 +6,4 @@ pub mod Journals
 pub mod Steps
 pub mod Forms
 pub mod Finds
+pub mod DeadBytes

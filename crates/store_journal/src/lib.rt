@@ -3,6 +3,7 @@
 #![tactic(auto)]
 
 mod clearing;
+mod dead_bytes;
 mod finding;
 mod journal;
 mod layout;
@@ -15,6 +16,7 @@ mod sides;
 mod visitor;
 mod windows;
 
+pub use dead_bytes::DEAD_LIMIT;
 pub use finding::FoundForm;
 pub use journal::Journal;
 pub use opening::Opened;

@@ -80,5 +80,5 @@ pub record CompactedRequests : Type 0 where
   pub all : compacted_requests two_records ≡ first ∷ second ∷ []
   pub payloads : compacted_requests (two_records ++ newer_record ∷ []) ≡ product ∷ over_product ∷ newer ∷ []
   pub kept : requests_among (product ∷ over_product ∷ newer ∷ []) ≡ latest_alone (two_records ++ newer_record ∷ [])
-  -- how many bytes they take, each behind its gate
+  -- how many bytes they take, each after its commit byte
   pub count : blocks_length (compacted_from none_compacted (latest_alone (two_records ++ newer_record ∷ []))).payloads ≡ 132

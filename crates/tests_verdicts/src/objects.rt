@@ -31,10 +31,10 @@ pub(super) struct Told {
     pub idle: bool,
 }
 
-/// A side of generation 1 without a record, but for the last gate.
+/// A side of generation 1 without a record, but for the last commit byte.
 static SIDE: &[u8] = b"\x01VUNITREC\x03\x01\0\0\0\0\0\0\0";
 
-/// File `p.vhd` of `lib`, compiled by `cc`, with the text `x` and the artefact `yz`, after an open gate and the length.
+/// File `p.vhd` of `lib`, compiled by `cc`, with the text `x` and the artefact `yz`, after an open commit byte and the length.
 static FIRST: &[u8] = b"\x01\x2c\0\0\0\
 \x01\x03\0\0\0lib\x05\0\0\0p.vhd\x01\0\0\0\x02\0\0\0cc\x01\x01\0\0\0x\0\0\0\0\x01\x02\0\0\0yz";
 

@@ -11,7 +11,8 @@ use Rattle.store.specs.Held.{TakenState}
 use Rattle.store.proofs.Borrowed.{all_borrowed, none_borrowed}
 use Rattle.store.proofs.Compacted.{found_generation, image_asks, none_unasked, store_asks, taken_asks}
 use Rattle.store.proofs.Kept.{kept_held, requests_held}
-use Rattle.store.proofs.RequestMoments.{open_leaves, open_opens, reads_image, then_leaves, then_opens}
+use Rattle.store_journal.proofs.Losing.{reads_image}
+use Rattle.store.proofs.RequestMoments.{open_leaves, open_opens, then_leaves, then_opens}
 use Rattle.store.proofs.TakingOver.{found_none, healthy_found}
 use Rattle.store.proofs.reading.read.Goals as goal
 

@@ -5,7 +5,8 @@ use Rattle.outside.specs.Records.{Record as RequestRecord}
 use Rattle.store.specs.Held.{AreBorrowedBy}
 use Rattle.store.specs.Stored.{AreAllOrLatest, HasCompactedOver, kept_payloads, own_requests, requests_in, store_of}
 use Rattle.store.proofs.OnAny.{on_ok_any, still_in_step, still_borrowed}
-use Rattle.store.proofs.RequestMoments.{all_moments, own_all, reads_image, then_leaves, then_opens}
+use Rattle.store_journal.proofs.Losing.{reads_image}
+use Rattle.store.proofs.RequestMoments.{all_moments, own_all, then_leaves, then_opens}
 use Rattle.store.proofs.store.RequestStore.open.Goals as goal
 
 pub returns-clause-any_moment : goal.returns-clause-any_moment
