@@ -429,6 +429,9 @@ def no_command():
     assert (code, said, error) == (75, b"", b"over_cache: no answer: there is no command made behind this one in PATH\n"), (code, error)
 
 
+# (a signal that is ignored here, as in a shell's background job, would be ignored by all children)
+for ending in signal.SIGINT, signal.SIGHUP, signal.SIGTERM:
+    signal.signal(ending, signal.SIG_DFL)
 works = [hits_and_misses, many_files, codes_and_outputs, keys, collisions, merged_in_use, entries_of_any_bytes, refused_folders,
          folder_that_is_away, clock_that_goes_back, trimming_while_others_read, least_recently_used, full_disk, ends_with_the_runner,
          explained, no_command]
