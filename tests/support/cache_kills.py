@@ -62,13 +62,15 @@ def at_each_call(name, more):
 
 
 def at_random_moments(count):
+    """Each second start is over a request of its own, so that entries are written until the end."""
     chance, place = random.Random(SEED), CachePlace("random")
-    requests = [request(number, 4) for number in range(40)]
+    requests = [request(number, 4) for number in range(40 + count // 2)]
     begun = time.monotonic()
     for data in requests[:5]:
         place.check(data, 1)
     usual = (time.monotonic() - begun) / 5
-    kills = [(chance.choice(requests), chance.uniform(0, 1.3 * usual)) for _ in range(count)]
+    chosen = [requests[40 + at // 2] if at % 2 else chance.choice(requests[:40]) for at in range(count)]
+    kills = [(data, chance.uniform(0, 1.3 * usual)) for data in chosen]
     ended = []
 
     def kill(data, moment):
