@@ -43,6 +43,10 @@ def marks_use():
 def long_request(count):
     """One that doesn't wait in memory, over so many of the longest artefacts. It is as long as one artefact more: 8,191 are 2^31 bytes."""
     place = CachePlace("long")
+    os.mkdir(place.cache, 0o700)
+    with open(os.path.join(place.cache, "limit"), "w") as file:
+        # (both requests have a place, and something is left for uneven subfolders)
+        file.write(str(1024 + 4 * count * ARTEFACT // 1_048_576))
     for filler in b"0" * 100, os.urandom(100):
         length, wanted = write_long(place.path("request"), count, filler)
         for starts in 1, 0:
