@@ -26,6 +26,8 @@ INLINE, TEXT, LIST = b"\0", b"\1", b"\2"
 # The greatest number of equal digests that are told apart, and of files of a request that share a list of references.
 MOST_EQUAL, IN_LIST = 64, 64
 DAY, STALE = 86_400, 3_600
+# The bytes into which a text is read, or more where it is longer.
+BUFFER = 131_072
 USUAL_MEGABYTES, MEGABYTE, SUBFOLDERS = 2_048, 1_048_576, 256
 # One compile in this number trims one subfolder, for at most this number of seconds of the processor.
 TRIM_CHANCE, TRIM_SECONDS = 8, 0.02
@@ -95,7 +97,7 @@ def entry_in(data, path=None, used=0):
 
 class CacheFolder:
     def __init__(self, path, is_written):
-        self.path, self.is_written, self.buffer = path, is_written, bytearray(131_072)
+        self.path, self.is_written, self.buffer = path, is_written, bytearray()
         try:
             found = os.stat(path)
         except FileNotFoundError:
@@ -130,7 +132,7 @@ class CacheFolder:
             return None
         try:
             if len(self.buffer) <= length + SUM:
-                self.buffer = bytearray(length + SUM + 1)
+                self.buffer = bytearray(max(BUFFER, length + SUM + 1))
             return memoryview(self.buffer)[:length] if os.readv(file, [self.buffer]) == length + SUM else None
         except OSError:
             return None

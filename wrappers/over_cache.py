@@ -14,7 +14,7 @@ the program, a closed standard output counting as SIGPIPE; and with 75 without a
 
 # Why it is so:
 # Whole requests are compared, and hashes only find them. Trust in a long hash took half of a hit over 8 MB.
-# A process of its own asks whether a folder answers, which costs 0.8 ms. With a thread the program could not end.
+# A process of its own asks whether a folder answers, which costs 0.6 ms. With a thread the program could not end.
 # On request the hit of a compile exists in C too (over_cache_hit.c), which hands unusual cases over to Python. Python alone
 # takes 16 ms, where a quarter of ghdl_analyse's 38 was wanted.
 
