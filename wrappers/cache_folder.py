@@ -278,7 +278,7 @@ class CacheFolder:
                     return name
                 if sum_of(stored[0][:-SUM]) == stored[0][-SUM:]:
                     continue
-            return self.add_new_text(data, found, pointer)
+            return self.add_new_text(data, found, pointer, name)
         raise OSError(0, "too many texts have the same digest")
 
     def named_by(self, pointer, found):
@@ -289,22 +289,29 @@ class CacheFolder:
         except (OSError, ValueError):
             return None
 
-    def add_new_text(self, data, found, pointer):
+    def add_new_text(self, data, found, pointer, lost):
+        """Stores a text, whose link is missing, or leads to the name `lost`: that was trimmed or damaged. If another process has stored an
+        equal one meanwhile, it gives that one's name."""
         name = found + os.urandom(NONCE)
         path = self.text_path(name)
         if not self.add(path, data + sum_of(data)):
             raise OSError(0, "a nonce came twice")
-        try:
-            # (it may lead to what was trimmed or damaged)
-            os.unlink(pointer)
-        except FileNotFoundError:
-            pass
+        if not self.add_link(path, pointer):
+            first = self.named_by(pointer, found)
+            if first and first != lost and (stored := read_file(self.text_path(first))) and stored[0][:-SUM] == data:
+                remove(path)
+                return first
+            remove(pointer)
+            # (if the file system has no links, two files have the text)
+            self.add_link(path, pointer)
+        return name
+
+    def add_link(self, path, pointer):
         try:
             os.symlink(os.path.basename(path), pointer)
+            return True
         except OSError:
-            # (somebody was quicker, or the file system has no links: then two files have the text)
-            pass
-        return name
+            return False
 
     def add_parts(self, outline):
         """The parts of a request as an entry has them, with its texts stored. Many files are put into lists, which entries share."""

@@ -1,8 +1,8 @@
 """wrappers/over_cache over a compiler that is a script: what is a hit and what isn't, whatever the folder holds or refuses. Works in the present
 folder."""
 
-import os, shutil, signal, subprocess, time
-from cache_places import COMPILER, NO_KEY, CachePlace, artefact_of, change, copied_wrappers, request
+import os, shutil, signal, subprocess, sys, time
+from cache_places import COMPILER, NO_KEY, WRAPPERS, CachePlace, artefact_of, change, copied_wrappers, request
 from engines import all_at_once
 
 POOR_HASH = """
@@ -289,6 +289,30 @@ def sixteen_writers():
         assert len(place.files(".entry1")) == 1
 
 
+def stored_meanwhile():
+    """Another process stores a text after this one has looked for it: all have its name, also in place of a damaged one."""
+    sys.path.insert(0, WRAPPERS)
+    from cache_folder import CacheFolder
+
+    path = os.fsencode(os.path.abspath("meanwhile"))
+    ours, others = CacheFolder(path, True), CacheFolder(path, True)
+    add = ours.add
+    for text, is_damaged in (b"one" * 100, False), (b"two" * 100, True):
+        if is_damaged:
+            change(others.text_path(others.add_text(text)), at=0)
+        names = []
+
+        def add_later(*given):
+            names.append(others.add_text(text))
+            return add(*given)
+
+        ours.add = add_later
+        names += [ours.add_text(text), others.add_text(text)]
+        assert len(names) == 3 and len({*names}) == 1, f"a text is stored twice: {names}"
+        stored = [name for _, _, files in os.walk(path) for name in files if name.endswith(b".text1")]
+        assert len(stored) == (3 if is_damaged else 1), f"these are left: {stored}"
+
+
 def two_users():
     """Two users of one group, of whom neither lets others read by default."""
     place = CachePlace("users")
@@ -437,6 +461,7 @@ works = [hits_and_misses, many_files, codes_and_outputs, keys, collisions, merge
          explained, no_command]
 all_at_once(works, 8)
 sixteen_writers()
+stored_meanwhile()
 if os.getuid() == 0:
     two_users()
 else:
