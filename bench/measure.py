@@ -66,6 +66,18 @@ def make_project(folder, count, kind, compiler=None, size=SIZE, simulator=None):
     return all_needs
 
 
+def make_benches(folder, benches, cases):
+    """Adds benches to a project, each in a file that is as long as the others. Gives benches and names of their cases."""
+    names = [(f"tb{bench:02}", f"case_{case:02}") for bench in range(benches) for case in range(cases)]
+    for bench in dict(names):
+        calls = "".join(f'    if run("{case}") then null; end if;\n' for of, case in names if of == bench)
+        source = (f"entity {bench} is\n  generic (runner_cfg : string);\nend entity;\n\narchitecture sim of {bench} is\nbegin\n"
+                  f"  main : process\n  begin\n{calls}  end process;\nend architecture;\n\n")
+        with open(os.path.join(folder, "src", bench + ".vhd"), "w") as file:
+            file.write(source.ljust(SIZE - 1, "-") + "\n")
+    return names
+
+
 def make_listed(folder, count, size):
     """Makes a listed project, each file of which depends on all before it, and gives these."""
     make_project(folder, count, "near", size=size)
