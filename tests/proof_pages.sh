@@ -1,5 +1,5 @@
 #!/bin/sh
-# docs/proof/DEFINITIONS.md and CALLS.md are what tests/support/proof_pages.py makes of the sources, and have fewer than 15,000
+# docs/proof/DEFINITIONS.md and CALLS.md are what tests/support/proof_pages.py makes of the sources, and have fewer than 17,000
 # words together. Where a comment, a label or a cited name changes, they are to be made anew: this script sees each in a copy of
 # the sources. At most BARE definitions and public calls have no comment: lower that number where some get one, and never raise
 # it. Ends with 0, with 1 if a page differs, and with 77 if python3 is missing.
@@ -8,7 +8,7 @@ top=${TOP:-$(cd -- "$(dirname -- "$0")/.." && pwd)} || exit 1
 needs python3
 room=$(mktemp -d) || exit 1
 trap 'rm -rf "$room"' EXIT
-MOST=15000
+MOST=17000
 BARE=0
 wrong=0
 

@@ -33,7 +33,7 @@ text_once : (texts : List (List ℕ)) (text : TextRef) → AreOnce texts → is_
 text_once texts (ByNumber number) once e = once
 text_once texts (InFull text) once e = once_more bytes_eq bytes_eq-Decides texts text once (not_true _ e)
 
-files_once : (texts : List (List ℕ)) (files : List FileDraft) → AreOnce texts → are_listed_files texts files ≡ true → AreOnce (with_list_texts texts files)
+pub files_once : (texts : List (List ℕ)) (files : List FileDraft) → AreOnce texts → are_listed_files texts files ≡ true → AreOnce (with_list_texts texts files)
 unfolding with_list_texts are_listed_files
 files_once texts [] once e = once
 files_once texts (file ∷ files) once e =

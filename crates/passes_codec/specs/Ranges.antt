@@ -1,8 +1,8 @@
 -- Payloads of passes as ranges of their bytes.
-use Rattle.std.specs.Prelude.{ℕ, List, [], drop}
+use Rattle.std.specs.Prelude.{◌≡◌, ◌≤◌, ⊤, ℕ, List, [], length, drop, Option, Some}
 use Rattle.std.specs.Option.{option_map_or}
 use Rattle.base_bytes.specs.Reading.{counted_at}
-use Rattle.base_bytes.specs.Ranges.{counted_words, ranged}
+use Rattle.base_bytes.specs.Ranges.{counted_words, range_end, ranged}
 use Rattle.base_bytes.specs.TextRefs.{ref_in_range}
 use Rattle.base_bytes.specs.declared.ranges.ByteRange.{ByteRange}
 use Rattle.testbench_runs.specs.declared.runs.TestRun.{TestRun}
@@ -30,6 +30,11 @@ counted_files bytes range = option_map_or (λ read. read.0) (counted_at file_at 
 abbrev pub list_in_range : List ℕ → ListRange → ListRef
 list_in_range bytes (ranges.Known number) = KnownList number
 list_in_range bytes (ranges.New files) = NewList (counted_files bytes files)
+
+-- the files of a new list can be read from the start of their range, which is within the bytes
+abbrev pub HasFilesAt : List ℕ → ListRange → Type 0
+HasFilesAt bytes (ranges.Known number) = ⊤
+HasFilesAt bytes (ranges.New files) = (files.start ≤ length bytes) × (counted_at file_at (drop files.start bytes) ≡ Some (counted_files bytes files, drop (range_end files) bytes))
 
 -- the pass whose parts are at these ranges of bytes
 abbrev pub pass_in_ranges : List ℕ → PassRanges → PassDraft

@@ -1,10 +1,10 @@
 //! Reading a payload of a pass as ranges of its bytes: nothing is copied.
 
-ghost use Rattle.std.specs.Prelude.{◌≤◌, length, drop};
+ghost use Rattle.std.specs.Prelude.{◌≡◌, ◌≤◌, length, drop, IfSome};
 ghost use Rattle.base_bytes.specs.Reading.{ReadsAll, counted_at};
 ghost use Rattle.base_bytes.specs.Ranges.{IsRangeAt, IsReadAt};
 ghost use Rattle.passes_codec.specs.Forms.{file_at, flag_at, list_ref_at, new_list_at, known_list_at, pass_in, run_at};
-ghost use Rattle.passes_codec.specs.Ranges.{counted_files, file_in_ranges, list_in_range, pass_in_ranges, run_in_ranges};
+ghost use Rattle.passes_codec.specs.Ranges.{HasFilesAt, counted_files, file_in_ranges, list_in_range, pass_in_ranges, run_in_ranges};
 
 use base_bytes::{
     ByteRange, TextRange, byte_range, count_range, number_range, ref_range, text_range, words_range,
@@ -111,8 +111,9 @@ pub fn file_range(bytes: &[u8], at: usize) -> Option<(FileRanges, usize)>
 /// The files of a new list after their count, from an offset on.
 fn files_range(bytes: &[u8], at: usize) -> Option<ByteRange>
     requires { at ≤ length bytes.now }
-    ensures { IsRangeAt at (counted_files bytes.now) bytes.now result
+    ensures is { IsRangeAt at (counted_files bytes.now) bytes.now result
         (counted_at file_at (drop at bytes.now)) }
+    ensures start { IfSome result (λ range. range.start ≡ at) }
 {
     let Some((count, first)) = count_range(bytes, at) else {
         return None;
@@ -134,8 +135,9 @@ fn files_range(bytes: &[u8], at: usize) -> Option<ByteRange>
 #[tactic(auto, unfolding(crate::specs::Forms::known_list_at))]
 fn known_list_range(bytes: &[u8], at: usize) -> Option<(ListRange, usize)>
     requires { at ≤ length bytes.now }
-    ensures { IsReadAt at (list_in_range bytes.now) bytes.now result
+    ensures is { IsReadAt at (list_in_range bytes.now) bytes.now result
         (known_list_at (drop at bytes.now)) }
+    ensures files { IfSome result (λ found. HasFilesAt bytes.now found.0) }
 {
     let Some((number, next)) = number_range(bytes, at) else {
         return None;
@@ -147,8 +149,9 @@ fn known_list_range(bytes: &[u8], at: usize) -> Option<(ListRange, usize)>
 #[tactic(auto, unfolding(crate::specs::Forms::new_list_at))]
 fn new_list_range(bytes: &[u8], at: usize) -> Option<(ListRange, usize)>
     requires { at ≤ length bytes.now }
-    ensures { IsReadAt at (list_in_range bytes.now) bytes.now result
+    ensures is { IsReadAt at (list_in_range bytes.now) bytes.now result
         (new_list_at (drop at bytes.now)) }
+    ensures files { IfSome result (λ found. HasFilesAt bytes.now found.0) }
 {
     let Some(files) = files_range(bytes, at) else {
         return None;
@@ -160,8 +163,9 @@ fn new_list_range(bytes: &[u8], at: usize) -> Option<(ListRange, usize)>
 #[tactic(auto, unfolding(crate::specs::Forms::list_ref_at, crate::specs::Forms::list_ref_by, crate::specs::Forms::known_list_at, crate::specs::Forms::new_list_at))]
 fn list_range(bytes: &[u8], at: usize) -> Option<(ListRange, usize)>
     requires { at ≤ length bytes.now }
-    ensures { IsReadAt at (list_in_range bytes.now) bytes.now result
+    ensures is { IsReadAt at (list_in_range bytes.now) bytes.now result
         (list_ref_at (drop at bytes.now)) }
+    ensures files { IfSome result (λ found. HasFilesAt bytes.now found.0) }
 {
     let (tag, next) = byte_range(bytes, at)?;
     match tag {
@@ -174,7 +178,8 @@ fn list_range(bytes: &[u8], at: usize) -> Option<(ListRange, usize)>
 /// The pass that all of the bytes spell, as ranges of them; `None` if they spell no pass.
 #[tactic(auto, unfolding(crate::specs::Forms::pass_in))]
 pub fn read_pass_payload(bytes: &[u8]) -> Option<PassRanges>
-    ensures { ReadsAll (pass_in_ranges bytes.now) result (pass_in bytes.now) }
+    ensures is { ReadsAll (pass_in_ranges bytes.now) result (pass_in bytes.now) }
+    ensures files { IfSome result (λ draft. HasFilesAt bytes.now draft.list) }
 {
     let (run, next) = run_range(bytes, 0)?;
     let simulator = words_range(bytes, next)?;

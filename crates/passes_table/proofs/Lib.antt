@@ -1,0 +1,17 @@
+-- The lemmas.
+pub mod Words
+pub mod PassRows
+pub mod NewLists
+pub mod Files
+pub mod Counts
+pub mod Puts
+pub mod Takes
+pub mod Checks
+pub mod LastRows
+pub mod Recalled
+pub mod PendingFiles
+pub mod RowDrafts
+pub mod RowBytes
+pub mod PassBytes
+pub mod NextPasses
+pub mod Loads

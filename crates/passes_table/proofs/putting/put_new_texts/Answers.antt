@@ -1,0 +1,98 @@
+use Rattle.std.proofs.Common.{◌≡◌, ◌+◌, ◌≤◌, ℕ, List, [], ◌∷◌, ◌++◌, length, drop, true, None, Some, refl, sym, ap, subst, ◌∙◌, arith}
+use Rattle.std.specs.Prelude.{⊤}
+use Rattle.std.specs.Int.{w32}
+use Rattle.std.proofs.lemmas.List.{length-map}
+use Rattle.std.proofs.lemmas.Option.{get_or_from_slice_get}
+use Rattle.base_bytes.specs.Reading.{number_at}
+use Rattle.base_bytes.specs.Ranges.{IsReadAt}
+use Rattle.base_bytes.specs.TextRefs.{is_text_ref, with_text}
+use Rattle.store_table.specs.Located.{located_text, located_texts, nth_payload, text_room}
+use Rattle.passes_codec.specs.Forms.{FileDraft, file_at}
+use Rattle.passes_codec.specs.PassTables.{with_list_texts}
+use Rattle.passes_codec.specs.Ranges.{counted_files, file_in_ranges}
+use Rattle.passes_table.proofs.Files.{FilesSoFar, IsFileAt, files_begin, files_end, files_go_on, files_rest, files_stop, no_files_count}
+use Rattle.passes_table.proofs.NewLists.{next_fits, next_ref, texts_none, texts_push}
+use Rattle.passes_table.proofs.putting.put_new_texts.Goals as goal
+
+abbrev Texts : (segments : List (List ℕ)) → (texts : List (List ℕ)) → (now : List (List ℕ)) → List FileDraft → Type 0
+Texts segments texts now files = now ≡ with_list_texts texts files
+
+pub returns-in_default-clause-is : goal.returns-in_default-clause-is
+returns-in_default-clause-is c =
+    let segments : List (List ℕ) = c.args.held.now.segments in
+    let bytes : c.get-bytes.result.now ≡ nth_payload segments c.args.at = sym (get_or_from_slice_get segments c.args.at c.get-bytes.result.now [] c.get-bytes.ensures) in
+    let none : number_at w32 (drop c.args.range.start (nth_payload segments c.args.at)) ≡ None = ap (λ (bs : List ℕ). number_at w32 (drop c.args.range.start bs)) (sym bytes) ∙ c.in_default.ensures in
+    absurd (no_files_count (λ files. ⊤) (nth_payload segments c.args.at) c.args.range c.requires.files none)
+
+pub loop-init : goal.loop-init
+loop-init c =
+    let segments : List (List ℕ) = c.args.held.now.segments in
+    let texts : List (List ℕ) = located_texts segments c.args.texts.now in
+    let bytes : c.get-bytes.result.now ≡ nth_payload segments c.args.at = sym (get_or_from_slice_get segments c.args.at c.get-bytes.result.now [] c.get-bytes.ensures) in
+    let read = subst (λ (bs : List ℕ). IsReadAt c.args.range.start (λ (n : ℕ). n) bs (Some (c.in-Some.count, c.in-Some.first)) (number_at w32 (drop c.args.range.start bs))) bytes c.in-Some.ensures in
+    record {
+      texts = record { within = c.requires.texts.within; split = c.requires.texts.split };
+      room = omega arith;
+      files = files_begin (Texts segments texts texts) (nth_payload segments c.args.at) c.args.range c.requires.files c.in-Some.count c.in-Some.first read (texts_none texts);
+    }
+
+pub returns-in_default-file_range-clause-is : goal.returns-in_default-file_range-clause-is
+returns-in_default-file_range-clause-is c =
+    let segments : List (List ℕ) = c.args.held.now.segments in
+    let texts : List (List ℕ) = located_texts segments c.args.texts.now in
+    let bytes : c.get-bytes.result.now ≡ nth_payload segments c.args.at = sym (get_or_from_slice_get segments c.args.at c.get-bytes.result.now [] c.get-bytes.ensures) in
+    let none = ap (λ (bs : List ℕ). file_at (drop c.loop.next bs)) (sym bytes) ∙ c.in_default-file_range.ensures in
+    absurd (files_stop (Texts segments texts (located_texts segments c.loop.texts)) (nth_payload segments c.args.at) c.args.range c.requires.files c.in-Some.count c.loop.counter c.loop.next c.loop.invariant.files c.loop-test.true none)
+
+pub put_artefact-requires-clause-source : goal.put_artefact-requires-clause-source
+put_artefact-requires-clause-source c =
+    let segments : List (List ℕ) = c.args.held.now.segments in
+    let texts : List (List ℕ) = located_texts segments c.args.texts.now in
+    let payload : List ℕ = nth_payload segments c.args.at in
+    let bytes : c.get-bytes.result.now ≡ nth_payload segments c.args.at = sym (get_or_from_slice_get segments c.args.at c.get-bytes.result.now [] c.get-bytes.ensures) in
+    let found = subst (λ (bs : List ℕ). IsFileAt bs c.loop.next c.in-Some-file_range.file c.in-Some-file_range.end) bytes c.in-Some-file_range.ensures in
+    let file : FileDraft = file_in_ranges (nth_payload segments c.args.at) c.in-Some-file_range.file in
+    let files = c.loop.invariant.files in
+    let rest = files_rest (Texts segments texts (located_texts segments c.loop.texts)) payload c.args.range c.requires.files c.in-Some.count c.loop.counter c.loop.next c.in-Some-file_range.end file files c.loop-test.true found.0 in
+    subst (λ (ts : List (List ℕ)). is_text_ref ts file.artefact ≡ true) (sym files.holds) (next_ref texts files.files rest.0 (counted_files payload c.args.range) file rest.1 c.requires.valid)
+
+pub put_artefact-requires-clause-room : goal.put_artefact-requires-clause-room
+put_artefact-requires-clause-room c =
+    let segments : List (List ℕ) = c.args.held.now.segments in
+    let texts : List (List ℕ) = located_texts segments c.args.texts.now in
+    let payload : List ℕ = nth_payload segments c.args.at in
+    let bytes : c.get-bytes.result.now ≡ nth_payload segments c.args.at = sym (get_or_from_slice_get segments c.args.at c.get-bytes.result.now [] c.get-bytes.ensures) in
+    let found = subst (λ (bs : List ℕ). IsFileAt bs c.loop.next c.in-Some-file_range.file c.in-Some-file_range.end) bytes c.in-Some-file_range.ensures in
+    let file : FileDraft = file_in_ranges (nth_payload segments c.args.at) c.in-Some-file_range.file in
+    let files = c.loop.invariant.files in
+    let rest = files_rest (Texts segments texts (located_texts segments c.loop.texts)) payload c.args.range c.requires.files c.in-Some.count c.loop.counter c.loop.next c.in-Some-file_range.end file files c.loop-test.true found.0 in
+    let fits = next_fits texts files.files rest.0 (counted_files payload c.args.range) file rest.1 in
+    omega (arith, fits, ap (λ (ts : List (List ℕ)). length (with_text ts file.artefact)) files.holds, c.requires.room, c.loop.invariant.room)
+
+pub loop-preserved : goal.loop-preserved
+loop-preserved c =
+    let segments : List (List ℕ) = c.args.held.now.segments in
+    let texts : List (List ℕ) = located_texts segments c.args.texts.now in
+    let payload : List ℕ = nth_payload segments c.args.at in
+    let bytes : c.get-bytes.result.now ≡ nth_payload segments c.args.at = sym (get_or_from_slice_get segments c.args.at c.get-bytes.result.now [] c.get-bytes.ensures) in
+    let found = subst (λ (bs : List ℕ). IsFileAt bs c.loop.next c.in-Some-file_range.file c.in-Some-file_range.end) bytes c.in-Some-file_range.ensures in
+    let file : FileDraft = file_in_ranges (nth_payload segments c.args.at) c.in-Some-file_range.file in
+    record {
+      texts = c.put_artefact.ensures.are;
+      room = omega (arith, c.loop.invariant.room, c.put_artefact.ensures.room);
+      files = files_go_on (Texts segments texts (located_texts segments c.loop.texts)) payload c.args.range c.requires.files (Texts segments texts (located_texts segments c.put_artefact.new.texts)) c.in-Some.count c.loop.counter c.loop.next c.in-Some-file_range.end file c.loop.invariant.files c.loop-test.true found.0 found.2
+          (λ files e. c.put_artefact.ensures.is ∙ ap (λ (ts : List (List ℕ)). with_text ts file.artefact) e ∙ sym (texts_push texts files file));
+    }
+
+pub returns-clause-is : goal.returns-clause-is
+returns-clause-is c =
+    let segments : List (List ℕ) = c.args.held.now.segments in
+    let texts : List (List ℕ) = located_texts segments c.args.texts.now in
+    let files = c.loop.invariant.files in
+    files.holds ∙ ap (with_list_texts texts) (sym (files_end (Texts segments texts (located_texts segments c.loop.texts)) (nth_payload segments c.args.at) c.args.range c.requires.files c.in-Some.count c.loop.counter c.loop.next files c.loop-test.false))
+
+pub file_range-requires : goal.file_range-requires
+file_range-requires c =
+    let segments : List (List ℕ) = c.args.held.now.segments in
+    let bytes : c.get-bytes.result.now ≡ nth_payload segments c.args.at = sym (get_or_from_slice_get segments c.args.at c.get-bytes.result.now [] c.get-bytes.ensures) in
+    omega (arith, c.loop.invariant.files.within, ap length bytes)
