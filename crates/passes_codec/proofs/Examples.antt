@@ -1,6 +1,7 @@
 -- Payloads of a small project, worked out by hand: the package counter_pkg, the entity counter and the bench tb_counter with its
 -- cases `reset` and `count & wrap`, over the built-in simulator. A side has 19 bytes, and 5 for each payload beside its own.
 use Rattle.std.proofs.Common.{◌≡◌, ℕ, ◌+◌, true, false, List, [], ◌∷◌, ◌++◌, length, codes, refl}
+use Rattle.base.specs.declared.graph.BuiltFile.{BuiltFile}
 use Rattle.base.specs.Bytes.{text_bytes}
 use Rattle.base.specs.Jobs.{name_bytes}
 use Rattle.base_bytes.specs.TextRefs.{TextRef, ref_by_number_at, ref_in_full_at, text_ref_at, text_ref_by}
@@ -10,6 +11,8 @@ use Rattle.base_bytes.specs.Names.{name_at}
 use Rattle.store_codec.specs.Forms.{text_ref_bytes}
 use Rattle.testbench_runs.specs.declared.runs.TestRun.{TestRun}
 use Rattle.testbench_runs.specs.BenchJobs.{texts_bytes}
+use Rattle.passes_spec.specs.Passes.{Pass, last_passes}
+use Rattle.passes_codec.specs.Compaction.{compacted_passes, payloads_over, spelled_files}
 use Rattle.passes_codec.specs.Forms.{FileDraft, ListRef, file_at, file_bytes, files_bytes, flag_at, known_list_at, list_ref_at, list_ref_by, list_ref_bytes, new_list_at, pass_bytes, pass_in, run_at, run_bytes}
 use Rattle.passes_codec.specs.Forms.ListRef.{KnownList, NewList}
 use Rattle.passes_codec.specs.PassTables.{after_pass_payload, are_listed_files, drafted_files, has_run_sizes, is_list_ref, is_valid_pass, pass_table_of, passes_among, with_list_texts}
@@ -120,3 +123,27 @@ within_list = refl
 pub repeated : count (small (NewList (one_file (InFull (codes "a")) ∷ one_file (InFull (codes "a")) ∷ [])) ∷ []) ≡ 0
 unfolding pass_table_of after_pass_payload is_valid_pass has_run_sizes is_list_ref are_listed_files drafted_files with_list_texts pass_in run_at flag_at list_ref_at list_ref_by known_list_at new_list_at file_at text_ref_at text_ref_by ref_by_number_at ref_in_full_at name_at text_at counted_at many_at pass_bytes run_bytes file_bytes files_bytes list_ref_bytes text_ref_bytes texts_bytes text_bytes name_bytes
 repeated = refl
+
+-- ## What compaction keeps
+
+-- a pass of tests that the simulator's word tells apart, over files with these artefacts
+abbrev small_pass : List ℕ → List BuiltFile → Pass
+small_pass word built = record { run = record { library = []; bench = []; architecture = []; cases = []; whole = true; same_sim = false; path = [] }; simulator = word ∷ []; built = built; output = codes "o" }
+
+abbrev built_file : List ℕ → List ℕ → BuiltFile
+built_file path artefact = record { name = record { library = codes "l"; path = path }; artefact = artefact }
+
+abbrev file_of : List ℕ → TextRef → FileDraft
+file_of path artefact = record { name = record { library = codes "l"; path = path }; artefact = artefact }
+
+abbrev two_files : List BuiltFile
+two_files = built_file (codes "p") (codes "a") ∷ built_file (codes "q") (codes "a") ∷ []
+
+-- the last pass of the same tests is kept, with its list, in which the second file has the number of its artefact; the next pass has the
+-- number of this list
+pub compacted : compacted_passes (small_pass (codes "s") (built_file (codes "p") (codes "b") ∷ []) ∷ small_pass (codes "s") two_files ∷ small_pass (codes "t") two_files ∷ [])
+    ≡ small (NewList (file_of (codes "p") (InFull (codes "a")) ∷ file_of (codes "q") (ByNumber 0) ∷ []))
+    ∷ pass_bytes (record { run = (small_pass [] []).run; simulator = codes "t" ∷ []; list = KnownList 0; output = codes "o" })
+    ∷ []
+unfolding last_passes compacted_passes payloads_over spelled_files drafted_files with_list_texts pass_bytes run_bytes file_bytes files_bytes list_ref_bytes text_ref_bytes texts_bytes text_bytes name_bytes
+compacted = refl

@@ -50,7 +50,7 @@ lists_once : (table : PassTable) (list : ListRef) → AreOnce table.lists → Is
 lists_once table (KnownList number) once is = once
 lists_once table (NewList files) once is = once_more is_same_list same_list-Decides table.lists (drafted_files table.texts files) once is.2
 
-once_with_pass : (table : PassTable) (draft : PassDraft) → AreNumberedOnce table → IsValidPass table draft → AreNumberedOnce (with_pass table draft)
+pub once_with_pass : (table : PassTable) (draft : PassDraft) → AreNumberedOnce table → IsValidPass table draft → AreNumberedOnce (with_pass table draft)
 once_with_pass table draft once is = record { texts = texts_once table draft.list once.texts is.list; lists = lists_once table draft.list once.lists is.list }
 
 -- what a valid draft keeps of a table holds of the table of any payloads, if it does of the bare one

@@ -2,3 +2,4 @@
 pub mod Forms
 pub mod Ranges
 pub mod PassTables
+pub mod Compaction

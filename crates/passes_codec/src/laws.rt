@@ -1,9 +1,11 @@
 //! Laws of payloads of passes and of their table, as functions with empty bodies.
 
-ghost use Rattle.std.specs.Prelude.{◌≡◌, ◌↔◌, ℕ, List, Some, true};
+ghost use Rattle.std.specs.Prelude.{◌≡◌, ◌↔◌, ℕ, List, Some, true, All, length};
 ghost use Rattle.base_bytes.specs.Reading.{AreBytes};
+ghost use Rattle.passes_spec.specs.Passes.{Pass, last_passes};
+ghost use Rattle.passes_codec.specs.Compaction.{FitsPass, IsNumberable, compacted_passes, compacted_table};
 ghost use Rattle.passes_codec.specs.Forms.{PassDraft, HasPassSpelling, pass_bytes, pass_in};
-ghost use Rattle.passes_codec.specs.PassTables.{AreNumberedOnce, IsValidPass, PassTable, after_pass_payload, is_valid_pass, pass_table_of, with_pass};
+ghost use Rattle.passes_codec.specs.PassTables.{AreNumberedOnce, IsValidPass, PassTable, after_pass_payload, is_valid_pass, pass_table_of, passes_among, with_pass};
 
 /// Laws of the bytes of payloads of passes.
 pub fn laws_of_pass_payloads()
@@ -27,4 +29,26 @@ pub fn laws_of_pass_tables()
     ensures adds { (table : PassTable) (draft : PassDraft) → IsValidPass table draft →
         HasPassSpelling draft →
         after_pass_payload table (pass_bytes draft) ≡ with_pass table draft }
+{}
+
+/// Laws of the payloads that compaction keeps.
+pub fn laws_of_compacted_passes()
+    // The parts of each pass of a table of payloads are within their limits.
+    ensures sizes { (payloads : List (List ℕ)) → All FitsPass (passes_among payloads) }
+    // The table of the payloads has the last pass of the same tests of these passes, in order,
+    ensures last { (passes : List Pass) → All FitsPass passes →
+        IsNumberable (compacted_table passes) →
+        pass_table_of (compacted_passes passes) ≡ compacted_table passes }
+    ensures passes { (passes : List Pass) →
+        (compacted_table passes).passes ≡ last_passes passes }
+    // one payload for each, so that none is dead.
+    ensures each { (passes : List Pass) →
+        length (compacted_passes passes) ≡ length (last_passes passes) }
+    // Compaction of the last passes gives the same payloads.
+    ensures again { (passes : List Pass) →
+        compacted_passes (last_passes passes) ≡ compacted_passes passes }
+    // The table of payloads has a number for each text and list, if the table before did.
+    ensures numbers { (payloads : List (List ℕ)) →
+        IsNumberable (pass_table_of payloads) →
+        IsNumberable (compacted_table (passes_among payloads)) }
 {}

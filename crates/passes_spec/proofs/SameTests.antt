@@ -1,4 +1,4 @@
--- The last pass of the same tests, among all passes and among the last alone; and what holds of all passes holds of these.
+-- The last pass of the same tests, among all passes and among the last alone; the last of these; and what holds of all passes holds of these.
 use Rattle.std.proofs.Common.{◌≡◌, ℕ, Bool, true, false, cond, ◌||◌, ◌&&◌, List, [], ◌∷◌, Option, Some, None, refl, sym, ap, subst, ◌∙◌, inl, inr, arith}
 use Rattle.std.specs.Prelude.{All}
 use Rattle.std.specs.List.{list_any}
@@ -108,4 +108,45 @@ last_of_last_passes run simulator (first ∷ rest) =
       | inr last ↦
           ap (last_pass run simulator) (cond-false (is_superseded rest first) (last_passes rest) (first ∷ last_passes rest) last)
           ∙ ap (λ (r : Option Pass). option_or r (cond (is_of_tests run simulator first) (Some first) None)) (last_of_last_passes run simulator rest)
+    ]
+
+either_later : (of later : Bool) → (of ≡ true → later ≡ true) → of || later ≡ later
+either_later true later known = sym (known refl)
+either_later false later known = refl
+
+-- a later pass of the same tests as one of some tests is of these tests
+later_too : (run : TestRun) (simulator : List (List ℕ)) (first : Pass) (rest : List Pass) → is_superseded rest first ≡ true → is_of_tests run simulator first ≡ true → list_any (is_of_tests run simulator) rest ≡ true
+later_too run simulator first rest superseded of =
+    sym (same_any (is_of_tests first.run first.simulator) (is_of_tests run simulator) (same_tests run simulator first of) rest) ∙ superseded
+
+-- tests have a pass among the last alone exactly where they have one
+any_of_last_passes : (run : TestRun) (simulator : List (List ℕ)) (passes : List Pass) → list_any (is_of_tests run simulator) (last_passes passes) ≡ list_any (is_of_tests run simulator) passes
+unfolding last_passes
+any_of_last_passes run simulator [] = refl
+any_of_last_passes run simulator (first ∷ rest) =
+    elim (cases_Bool (is_superseded rest first)) [
+      | inl later ↦
+          ap (list_any (is_of_tests run simulator)) (cond-true (is_superseded rest first) (last_passes rest) (first ∷ last_passes rest) later)
+          ∙ any_of_last_passes run simulator rest
+          ∙ sym (either_later (is_of_tests run simulator first) (list_any (is_of_tests run simulator) rest) (later_too run simulator first rest later))
+      | inr last ↦
+          ap (list_any (is_of_tests run simulator)) (cond-false (is_superseded rest first) (last_passes rest) (first ∷ last_passes rest) last)
+          ∙ ap (λ (b : Bool). is_of_tests run simulator first || b) (any_of_last_passes run simulator rest)
+    ]
+
+-- the last of the last passes are the last
+pub last_passes_again : (passes : List Pass) → last_passes (last_passes passes) ≡ last_passes passes
+unfolding last_passes
+last_passes_again [] = refl
+last_passes_again (first ∷ rest) =
+    elim (cases_Bool (is_superseded rest first)) [
+      | inl later ↦
+          let is = cond-true (is_superseded rest first) (last_passes rest) (first ∷ last_passes rest) later in
+          ap last_passes is ∙ last_passes_again rest ∙ sym is
+      | inr last ↦
+          let is = cond-false (is_superseded rest first) (last_passes rest) (first ∷ last_passes rest) last in
+          ap last_passes is
+          ∙ cond-false (is_superseded (last_passes rest) first) (last_passes (last_passes rest)) (first ∷ last_passes (last_passes rest)) (any_of_last_passes first.run first.simulator rest ∙ last)
+          ∙ ap (λ (ps : List Pass). first ∷ ps) (last_passes_again rest)
+          ∙ sym is
     ]

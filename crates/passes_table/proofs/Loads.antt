@@ -20,7 +20,8 @@ use Rattle.passes_table.specs.declared.pending.PendingList.{PendingList}
 use Rattle.passes_table.specs.declared.table.LocatedPasses.{LocatedPasses}
 use Rattle.passes_table.specs.Additions.{IsListPart, is_new}
 use Rattle.passes_table.specs.Located.{ArePassesLocated, Extends, IsListRow, listed_files, located_passes, passes_by, row_pass}
-use Rattle.passes_table.specs.Pending.{AreInOrder, FitsBuilt, IsPending, IsRenewed, IsWithFile, all_known, all_texts, fresh_in, pending_files}
+use Rattle.passes_codec.specs.Compaction.{FitsBuilt}
+use Rattle.passes_table.specs.Pending.{AreInOrder, IsPending, IsRenewed, IsWithFile, all_known, all_texts, fresh_in, pending_files}
 use Rattle.passes_table.specs.States.{AreLoaded, HasFresh}
 use Rattle.passes_table.proofs.Checks.{keeps_names}
 use Rattle.passes_table.proofs.PassRows.{fingerprints_still, pass_rows_still, rows_still}

@@ -22,7 +22,8 @@ use Rattle.testbench_runs.specs.Runs.{FitsRun}
 use Rattle.passes_codec.specs.Forms.{FileDraft, HasFileSpelling, HasListSpelling, HasPassSpelling, HasRunSpelling, ListRef, PassDraft, file_bytes, files_bytes, flag_byte, list_ref_bytes, pass_bytes, run_bytes}
 use Rattle.passes_codec.specs.Forms.ListRef.{KnownList, NewList}
 use Rattle.passes_table.specs.declared.writing.TheConstants.{FILE_SIZE, HEAD_SIZE}
-use Rattle.passes_table.specs.Pending.{FitsBuilt, known_after, row_draft, row_drafts, row_ref}
+use Rattle.passes_codec.specs.Compaction.{FitsBuilt}
+use Rattle.passes_table.specs.Pending.{known_after, row_draft, row_drafts, row_ref}
 
 texts_size : (texts : List (List ℕ)) → length (flat_map text_bytes texts) ≡ sum_by (λ text. length text) texts + 4 * length texts
 texts_size [] = refl

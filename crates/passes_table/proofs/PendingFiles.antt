@@ -19,7 +19,8 @@ use Rattle.store_table.proofs.Longer.{texts_still}
 use Rattle.store_table.proofs.Keeping.{Keeps, keeps_more, keeps_self, products_still}
 use Rattle.passes_table.specs.declared.pending.FreshTexts.{FreshTexts}
 use Rattle.passes_table.specs.declared.pending.PendingList.{PendingList}
-use Rattle.passes_table.specs.Pending.{AreInOrder, FitsBuilt, IsPending, IsWithFile, all_known, all_texts, fresh_in, known_after, pending_files}
+use Rattle.passes_codec.specs.Compaction.{FitsBuilt}
+use Rattle.passes_table.specs.Pending.{AreInOrder, IsPending, IsWithFile, all_known, all_texts, fresh_in, known_after, pending_files}
 
 pub known_push : (known : ℕ) (rows : List ProductRow) (row : ProductRow) → all_known known (rows ++ row ∷ []) ≡ known_after (all_known known rows) row
 unfolding all_known

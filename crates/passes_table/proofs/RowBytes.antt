@@ -18,7 +18,8 @@ use Rattle.store_table.specs.Located.{IsProductRow, no_name, row_product}
 use Rattle.store_table.specs.declared.products.ProductRow.{ProductRow}
 use Rattle.passes_codec.specs.Forms.{FileDraft, file_bytes}
 use Rattle.passes_table.specs.declared.pending.PendingList.{PendingList}
-use Rattle.passes_table.specs.Pending.{AreInOrder, FitsBuilt, IsPending, all_known, all_texts, known_after, row_draft, row_drafts, row_ref}
+use Rattle.passes_codec.specs.Compaction.{FitsBuilt}
+use Rattle.passes_table.specs.Pending.{AreInOrder, IsPending, all_known, all_texts, known_after, row_draft, row_drafts, row_ref}
 use Rattle.passes_table.proofs.PendingFiles.{known_push}
 use Rattle.passes_table.proofs.RowDrafts.{drafts_push}
 

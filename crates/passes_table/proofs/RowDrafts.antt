@@ -16,7 +16,8 @@ use Rattle.store_table.specs.declared.products.ProductRow.{ProductRow}
 use Rattle.store_table.proofs.Finding.{new_is}
 use Rattle.passes_codec.specs.Forms.{FileDraft}
 use Rattle.passes_codec.specs.PassTables.{are_listed_files, drafted_files, is_listed_file, with_list_texts}
-use Rattle.passes_table.specs.Pending.{AreInOrder, FitsBuilt, all_known, known_after, row_draft, row_drafts, row_ref}
+use Rattle.passes_codec.specs.Compaction.{FitsBuilt}
+use Rattle.passes_table.specs.Pending.{AreInOrder, all_known, known_after, row_draft, row_drafts, row_ref}
 
 module _ (names : List FileName) (all : List (List ℕ)) where
   -- one row more

@@ -1,21 +1,16 @@
 -- The list of the files that tests run over, which may have texts that payloads lack.
 use Rattle.std.specs.Prelude.{◌≡◌, ◌≢◌, ⊤, ℕ, suc, nat_lt, ◌+◌, ◌≤◌, List, [], ◌∷◌, ◌++◌, length, All, AllPairs, slice_index_or, Bool, true, false, Result, Ok, Err, if◌then◌else◌}
-use Rattle.base.specs.Names.{FitsName}
 use Rattle.base.specs.declared.file.FileName.{FileName}
 use Rattle.base.specs.declared.graph.BuiltFile.{BuiltFile}
-use Rattle.base.specs.declared.limits.TheConstants.{ARTEFACT_LIMIT, FILE_LIMIT}
+use Rattle.base.specs.declared.limits.TheConstants.{FILE_LIMIT}
 use Rattle.base_bytes.specs.TextRefs.{TextRef}
 use Rattle.base_bytes.specs.TextRefs.TextRef.{ByNumber, InFull}
 use Rattle.store_table.specs.Located.{AreTextsLocated, IsProductRow, located_texts, no_name, row_products}
 use Rattle.store_table.specs.declared.products.ProductRow.{ProductRow}
 use Rattle.passes_codec.specs.Forms.{FileDraft}
+use Rattle.passes_codec.specs.Compaction.{FitsBuilt}
 use Rattle.passes_table.specs.declared.pending.FreshTexts.{FreshTexts}
 use Rattle.passes_table.specs.declared.pending.PendingList.{PendingList}
-
--- a built file is within the limits of a list
-pub record FitsBuilt (built : BuiltFile) : Type 0 where
-  pub name : FitsName built.name
-  pub artefact : length built.artefact ≤ ARTEFACT_LIMIT
 
 -- how many texts are there after a row, which may have the next one
 abbrev pub known_after : ℕ → ProductRow → ℕ
