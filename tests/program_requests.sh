@@ -165,7 +165,7 @@ row("p is refused, and a note in v, -k", Step("p v", with_lines(p=REFUSED, v=NOT
 row("a comment in p, and u1 is refused", Step("p u1", with_lines(p=COMMENT, u1=REFUSED), refused="u1"), Step("", with_lines(u1="")))
 row("a comment in p, and u1 is refused, -k", Step("p u1", with_lines(p=COMMENT, u1=REFUSED), "-k", "u1", "w"), Step("p", with_lines(p="", u1="")))
 row("a note in p, and u1 is refused", Step("p u1", with_lines(p=NOTE, u1=REFUSED), refused="u1"), Step("u1 u2 w x", with_lines(u1="")), slots=(1,))
-row("a note in p, and u1 is refused, more at once", Step("p u1 u2", with_lines(p=NOTE, u1=REFUSED), refused="u1", plan={"u1": {"sleeps": 0.2}, "u2": {"sleeps": 0.4}}),
+row("a note in p, and u1 is refused, more at once", Step("p u1 u2", with_lines(p=NOTE, u1=REFUSED), refused="u1", plan={"u1": {"sleeps": 0.2}, "u2": {"sleeps": 2}}),
     Step("u1 w x", with_lines(u1="")), slots=(2, 3))
 row("a note in p, and u1 is refused, -k", Step("p u1 u2 x", with_lines(p=NOTE, u1=REFUSED), "-k", "u1", "w"), Step("u1 w", with_lines(u1="")))
 row("q is refused, -k", Step("q", with_lines(q=REFUSED), "-k", "q", "p u1 u2 w x"), Step("", with_lines(q="")))
