@@ -16,9 +16,9 @@ use testbench_runs::TestRun;
 /// An odd number, so that joining loses nothing.
 const FACTOR: u64 = 0x9E37_79B9_7F4A_7C15;
 
-/// A fingerprint with one more number joined to it.
+/// Joins one more number to a fingerprint.
 #[tactic(auto, unfolding(crate::specs::Fingerprints::joined))]
-fn joined(fingerprint: u64, number: u64) -> u64
+fn join(fingerprint: u64, number: u64) -> u64
     ensures { result ≡ joined fingerprint number }
 {
     fingerprint.wrapping_mul(FACTOR).wrapping_add(number)
@@ -28,7 +28,7 @@ fn joined(fingerprint: u64, number: u64) -> u64
 fn with_text(fingerprint: u64, text: &[u8]) -> u64
     ensures { result ≡ with_text_fingerprint fingerprint text.now }
 {
-    joined(fingerprint, fingerprint_of(text))
+    join(fingerprint, fingerprint_of(text))
 }
 
 /// A fingerprint with the fingerprints of texts joined to it.
@@ -87,7 +87,7 @@ pub fn fingerprint_in(bytes: &[u8], run: RunRanges, simulator: ByteRange) -> u64
 fn with_row(fingerprint: u64, row: ProductRow) -> u64
     ensures { result ≡ with_row_fingerprint fingerprint row }
 {
-    joined(joined(fingerprint, row.name as u64), row.text as u64)
+    join(join(fingerprint, row.name as u64), row.text as u64)
 }
 
 /// The fingerprint of the rows of a list.

@@ -168,7 +168,8 @@ impl PendingList {
         requires located { AreTextsLocated self.old.fresh.held.segments self.old.fresh.texts }
         ensures is { (names : List FileName) (own : FileName) →
             IsNameNumber names own name → FitsName own →
-            length self.old.row.files < FILE_LIMIT → IsPending names (located_texts held.now.segments texts.now) self.old →
+            length self.old.row.files < FILE_LIMIT →
+            IsPending names (located_texts held.now.segments texts.now) self.old →
             IsWithFile result names (located_texts held.now.segments texts.now)
             (record { name = own; artefact = artefact.now }) self.old self.new }
     {

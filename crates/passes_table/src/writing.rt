@@ -144,7 +144,8 @@ fn put_files<'a>(
         (out.new
         ≡ out.old
         ++ flat_map file_bytes
-        (row_drafts table.now.names.keys (all_texts texts list.now) (length texts) list.now.row.files)) }
+        (row_drafts table.now.names.keys (all_texts texts list.now) (length texts)
+        list.now.row.files)) }
 {
     let rows = list.row.files.as_slice();
     let total = table.texts.indices.len() + list.fresh.texts.indices.len();
@@ -191,7 +192,8 @@ fn files_size(held: &HeldPayloads<'_>, table: &LocatedPasses, list: &PendingList
         result
         ≡ length
         (flat_map file_bytes
-        (row_drafts table.now.names.keys (all_texts texts list.now) (length texts) list.now.row.files)) }
+        (row_drafts table.now.names.keys (all_texts texts list.now) (length texts)
+        list.now.row.files)) }
     ensures small { result ≤ FILE_LIMIT * FILE_SIZE }
 {
     let rows = list.row.files.as_slice();
