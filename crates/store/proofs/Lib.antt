@@ -1,6 +1,4 @@
 -- The lemmas.
-pub mod Placing
-pub mod Numbered
 pub mod LocatedRows
 pub mod Planned
 pub mod Owned

@@ -22,11 +22,12 @@ use Rattle.store_table.proofs.Finding.{any_decides}
 use Rattle.store.specs.declared.plan.CompactionPlan.{CompactionPlan}
 use Rattle.store.specs.declared.plan.RequestStep.{RequestStep}
 use Rattle.store.specs.declared.plan.CompactionStep.TheVariants as steps
-use Rattle.store.specs.Plans.{AreNumbers, HasMoreNumbers, HasTakenRequest, IsCounted, IsPlanIn, IsRequestStep, compacted_by, draft_over, numbered_products, table_record_at, request_step_draft, step_payload, text_of, with_compacted_payload}
-use Rattle.store.proofs.Numbered.{numbers_more}
+use Rattle.store_table.specs.NumberSets.{AreNumbers}
+use Rattle.store.specs.Plans.{HasMoreNumbers, HasTakenRequest, IsCounted, IsPlanIn, IsRequestStep, compacted_by, draft_over, numbered_products, table_record_at, request_step_draft, step_payload, text_of, with_compacted_payload}
+use Rattle.store_table.proofs.Numbered.{numbers_more}
 use Rattle.store.proofs.Planned.{absent_any, counted_still, deps_grown, payloads_grown, planned_there, products_grown, steps_still, took_numbers, took_ref, took_texts}
 use Rattle.store.proofs.LocatedRows.{product_artefact, product_text_low, products_count, record_artefact, record_built, record_text, records_count, row_here, row_is}
-use Rattle.store.proofs.Placing.{still_there}
+use Rattle.store_table.proofs.Placing.{still_there}
 
 compacted_parts : List (List ℕ) → List BuiltFile → List RequestPayload → CompactedSoFar
 compacted_parts texts products payloads = record { texts = texts; products = products; payloads = payloads }

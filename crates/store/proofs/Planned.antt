@@ -24,10 +24,11 @@ use Rattle.store.specs.declared.plan.ProductStep.{ProductStep}
 use Rattle.store.specs.declared.plan.RequestStep.{RequestStep}
 use Rattle.store.specs.declared.plan.CompactionStep.{CompactionStep}
 use Rattle.store.specs.declared.plan.CompactionStep.TheVariants as steps
-use Rattle.store.specs.Plans.{AreNumbers, HasMoreNumbers, HasTakenProduct, IsCounted, IsPlanIn, IsPlanStep, IsProductStep, IsRequestStep, TookText, blocks_length, compacted_by, draft_over, numbered_products, product_step_draft, table_record_at, request_step_draft, step_payload, text_of, with_compacted_payload}
+use Rattle.store_table.specs.NumberSets.{AreNumbers}
+use Rattle.store.specs.Plans.{HasMoreNumbers, HasTakenProduct, IsCounted, IsPlanIn, IsPlanStep, IsProductStep, IsRequestStep, TookText, blocks_length, compacted_by, draft_over, numbered_products, product_step_draft, table_record_at, request_step_draft, step_payload, text_of, with_compacted_payload}
 use Rattle.store.proofs.Counting.{blocks_more, counted_more}
-use Rattle.store.proofs.Numbered.{number_last, number_there, numbers_more, thing_index, thing_there, things_once}
-use Rattle.store.proofs.Placing.{number_grown, index_known, still_there}
+use Rattle.store_table.proofs.Numbered.{number_last, number_there, numbers_more, thing_index, thing_there, things_once}
+use Rattle.store_table.proofs.Placing.{number_grown, index_known, still_there}
 
 -- what is not there is not found
 pub not_any : (products : List BuiltFile) (product : BuiltFile) → (¬ Contains products product) → list_any (is_same_built product) products ≡ false

@@ -16,9 +16,10 @@ use Rattle.store.specs.declared.plan.CompactionStep.{CompactionStep}
 use Rattle.store.specs.declared.plan.ProductStep.{ProductStep}
 use Rattle.store.specs.declared.plan.RequestStep.{RequestStep}
 use Rattle.store.specs.Kept.{IsKeptProduct, IsKeptRequest}
-use Rattle.store.specs.Plans.{AreNumbers, IsProductStep, draft_over, numbered_products, product_step_draft, step_payload}
-use Rattle.store.proofs.Numbered.{number_there, thing_index, things_once}
-use Rattle.store.proofs.Placing.{number_known}
+use Rattle.store_table.specs.NumberSets.{AreNumbers}
+use Rattle.store.specs.Plans.{IsProductStep, draft_over, numbered_products, product_step_draft, step_payload}
+use Rattle.store_table.proofs.Numbered.{number_there, thing_index, things_once}
+use Rattle.store_table.proofs.Placing.{number_known}
 
 pub record IsWritten (table : RecordTable) (numbers : List ℕ) (steps : List CompactionStep) (payloads : List (List ℕ)) (count : ℕ) : Type 0 where
   pub are : payloads ≡ map request_payload_bytes (map (step_payload table numbers) (take count steps))

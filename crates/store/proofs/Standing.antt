@@ -23,7 +23,7 @@ use Rattle.store_codec.proofs.Spelling.{payload_again}
 use Rattle.store_table.proofs.Finding.{any_decides, new_is}
 use Rattle.store_table.proofs.Takes.{took_payload, took_product, took_request}
 use Rattle.store.specs.Kept.{IsKeptProduct, IsKeptRequest}
-use Rattle.store.proofs.Placing.{at_number, numbered, index_is, still_there}
+use Rattle.store_table.proofs.Placing.{at_number, numbered, index_is, still_there}
 
 -- a text by its index, where it is there, is there or new, and means itself
 ref_there : (texts : List (List ℕ)) (text : List ℕ) (known : Option ℕ) → IsIndexOf texts text known → is_text_ref texts (ref_or known text) ≡ true

@@ -11,7 +11,7 @@ use Rattle.store_codec.specs.Compaction.{CompactedSoFar, compacted_from, compact
 use Rattle.store.specs.declared.plan.CompactionPlan.{CompactionPlan}
 use Rattle.store.specs.declared.plan.CompactionStep.{CompactionStep}
 use Rattle.store.specs.Plans.{HasMoreNumbers, IsCounted, IsPlanIn, blank_request, blocks_length, compacted_by, numbered_products, table_record_at, step_payload, text_of}
-use Rattle.store.proofs.Placing.{still_there}
+use Rattle.store_table.proofs.Placing.{still_there}
 use Rattle.store.proofs.Planned.{planned_there}
 
 -- The first products of these numbers were planned.

@@ -1,5 +1,5 @@
 -- What is carried over, by numbers of the products, texts and records that are there.
-use Rattle.std.specs.Prelude.{◌≡◌, ℕ, ◌-◌, ◌^◌, ◌<◌, ◌≤◌, min, List, [], ◌∷◌, ◌++◌, length, map, All, AllPairs, ◌≢◌, Contains, slice_get, slice_index_or, Option, Some, None, IfSome, Bool}
+use Rattle.std.specs.Prelude.{◌≡◌, ℕ, ◌-◌, ◌^◌, ◌<◌, min, List, [], ◌∷◌, ◌++◌, length, map, All, Contains, slice_get, slice_index_or, Option, Some, None, IfSome, Bool}
 use Rattle.std.specs.List.{flat_map}
 use Rattle.base.specs.declared.graph.BuiltFile.{BuiltFile}
 use Rattle.base_collections.specs.Numbers.{IsAdded, NumbersBelow}
@@ -13,6 +13,7 @@ use Rattle.store_codec.specs.Writing.{ref_or}
 use Rattle.store_table.specs.declared.products.ProductRow.{ProductRow}
 use Rattle.store_table.specs.declared.table.LocatedTable.{LocatedTable}
 use Rattle.store_table.specs.declared.table.RecordRow.{RecordRow}
+use Rattle.store_table.specs.NumberSets.{AreNumbers}
 use Rattle.store_table.specs.Located.{IsTableLocated, no_row, located_table}
 use Rattle.store.specs.declared.plan.ProductStep.{ProductStep}
 use Rattle.store.specs.declared.plan.RequestStep.{RequestStep}
@@ -74,12 +75,6 @@ pub record IsRequestStep (table : RecordTable) (numbers : List ℕ) (step : Requ
 abbrev pub IsPlanStep : RecordTable → List ℕ → CompactionStep → Type 0
 IsPlanStep table numbers (steps.OfProduct step) = IsProductStep table step
 IsPlanStep table numbers (steps.OfRequest step) = IsRequestStep table numbers step
-
--- Numbers below a size, each once, with room for all.
-pub record AreNumbers (size : ℕ) (set : NumbersBelow) : Type 0 where
-  pub room : size ≤ set.size
-  pub below : All (λ number. number < size) set.numbers
-  pub once : AllPairs (λ a b. a ≢ b) set.numbers
 
 -- what the steps of a plan have carried so far
 abbrev pub compacted_by : RecordTable → CompactionPlan → CompactedSoFar

@@ -7,7 +7,8 @@ ghost use Rattle.store_codec.specs.Compaction.{compacted_requests};
 ghost use Rattle.store_codec.specs.RecordTables.{record_table_of, requests_among};
 ghost use Rattle.store_table.specs.Located.{IsTableLocated, located_table};
 ghost use Rattle.store.specs.declared.plan.CompactionStep.TheVariants.{OfProduct, OfRequest};
-ghost use Rattle.store.specs.Plans.{AreNumbers, IsPlanIn, IsPlanStep, IsProductStep, IsRequestStep, IsTableToCompact, KeepsLatestRequests, compacted_by, step_payload};
+ghost use Rattle.store_table.specs.NumberSets.{AreNumbers};
+ghost use Rattle.store.specs.Plans.{IsPlanIn, IsPlanStep, IsProductStep, IsRequestStep, IsTableToCompact, KeepsLatestRequests, compacted_by, step_payload};
 
 use crate::rows::{deps_of, product_parts, request_parts};
 use crate::{CompactionPlan, CompactionStep, ProductStep, RequestStep};

@@ -1,5 +1,7 @@
 -- The lemmas.
 pub mod Finding
+pub mod Numbered
+pub mod Placing
 pub mod Keeping
 pub mod RowProducts
 pub mod Deps

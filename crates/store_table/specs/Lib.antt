@@ -3,3 +3,4 @@ pub mod ProductRows
 pub mod Located
 pub mod Checked
 pub mod Cuts
+pub mod NumberSets

@@ -11,11 +11,11 @@ mod table;
 mod taking;
 mod texts;
 
-pub use checking::{TextNumbers, number_of_ref, text_of_source};
+pub use checking::TextNumbers;
 pub use cutting::take_payload;
 pub use held::HeldPayloads;
 pub use products::ProductRow;
-pub use putting::{put_ref, put_request};
+pub use putting::put_request;
 pub use table::{LocatedTable, RecordRow};
 pub use taking::{number_name, number_names, taken_up};
 pub use texts::{LocatedText, LocatedTexts, find_text, is_borrowed_from, put_text, text_at};

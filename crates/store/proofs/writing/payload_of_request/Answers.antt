@@ -5,7 +5,8 @@ use Rattle.store_codec.specs.Forms.{HasRequestSpelling, RequestDraft, request_pa
 use Rattle.store_codec.specs.Forms.RequestPayload.{OfRequest}
 use Rattle.store_codec.specs.Compaction.{number_of_built}
 use Rattle.store_table.specs.Located.{located_table}
-use Rattle.store.specs.Plans.{AreNumbers, draft_over, numbered_products, table_record_at, request_step_draft}
+use Rattle.store_table.specs.NumberSets.{AreNumbers}
+use Rattle.store.specs.Plans.{draft_over, numbered_products, table_record_at, request_step_draft}
 use Rattle.store.proofs.LocatedRows.{kept_here, products_count, records_count}
 use Rattle.store.proofs.Spelled.{deps_numbered, deps_planned, if_ok, request_spelled}
 use Rattle.store.proofs.writing.payload_of_request.Goals as goal

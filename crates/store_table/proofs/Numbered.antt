@@ -6,7 +6,7 @@ use Rattle.std.proofs.lemmas.List.{get_or-map, get_or_append_left, get_or_at, ge
 use Rattle.std.proofs.lemmas.List.Elements.{All-push}
 use Rattle.std.proofs.lemmas.Option.{get_or_from_slice_get, slice_get-get_or, slice_get_within}
 use Rattle.base_collections.specs.Numbers.{IsIndexOf, NumbersBelow}
-use Rattle.store.specs.Plans.{AreNumbers}
+use Rattle.store_table.specs.NumberSets.{AreNumbers}
 
 module _ {X : Type 0} (f : ℕ → X) (size : ℕ) (apart : (a b : ℕ) → a < size → b < size → f a ≡ f b → a ≡ b) (numbers : List ℕ) (below : All (λ n. n < size) numbers) where
   count : length (map f numbers) ≡ length numbers
