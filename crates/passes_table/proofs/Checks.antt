@@ -1,6 +1,6 @@
 -- Files of a new list that are valid, and lists that are there.
-use Rattle.std.proofs.Common.{◌≡◌, ◌≢◌, ℕ, zero, suc, ◌+◌, ◌<◌, ◌≤◌, Bool, true, false, ◌&&◌, nat_le, List, [], ◌∷◌, ◌++◌, length, map, drop, get_or, Some, refl, sym, ap, subst, ◌∙◌, arith, append_assoc, length-append}
-use Rattle.std.specs.Prelude.{All, AllPairs, Contains, slice_get}
+use Rattle.std.proofs.Common.{◌≡◌, ◌≢◌, ℕ, suc, ◌<◌, ◌≤◌, Bool, true, false, ◌&&◌, nat_le, List, [], ◌∷◌, ◌++◌, length, map, drop, get_or, refl, sym, ap, subst, ◌∙◌, arith}
+use Rattle.std.specs.Prelude.{All, AllPairs, Contains}
 use Rattle.std.specs.Bool.{Decides}
 use Rattle.std.specs.List.{list_any}
 use Rattle.std.proofs.lemmas.List.{append-nil, get_or-map, get_or_default, length-map, map-append}
@@ -8,15 +8,15 @@ use Rattle.std.proofs.lemmas.List.Elements.{All-push}
 use Rattle.std.proofs.lemmas.Option.{get_or_from_slice_get, slice_get_within}
 use Rattle.base.specs.declared.file.FileName.{FileName}
 use Rattle.base.specs.declared.graph.BuiltFile.{BuiltFile}
-use Rattle.base.specs.declared.limits.TheConstants.{ARTEFACT_LIMIT, FILE_LIMIT}
+use Rattle.base.specs.declared.limits.TheConstants.{ARTEFACT_LIMIT}
 use Rattle.base.specs.Names.{FitsName}
 use Rattle.base_bytes.specs.Sizes.{has_name_sizes}
-use Rattle.base_bytes.specs.TextRefs.{TextRef, is_text_ref, told_text, with_text}
+use Rattle.base_bytes.specs.TextRefs.{is_text_ref, told_text, with_text}
 use Rattle.base_bytes.proofs.Sized.{name_sizes-Decides, nat_le-Decides}
 use Rattle.base_collections.specs.declared.splits.Split.{Split}
 use Rattle.base_collections.specs.Splits.{AreSplit}
 use Rattle.store_table.specs.Checked.{IsNameNumber, ref_number}
-use Rattle.store_table.specs.Located.{AreTextsLocated, IsProductRow, located_text, located_texts, no_name, row_product, row_products}
+use Rattle.store_table.specs.Located.{AreTextsLocated, IsProductRow, located_text, no_name, row_product, row_products}
 use Rattle.store_table.specs.declared.products.ProductRow.{ProductRow}
 use Rattle.store_table.specs.declared.texts.LocatedText.{LocatedText}
 use Rattle.store_table.specs.declared.texts.LocatedTexts.{LocatedTexts}

@@ -6,7 +6,7 @@ use Rattle.base_bytes.specs.Reading.{◌>>=◌, counted_at, many_at, number_at}
 use Rattle.base_bytes.specs.Ranges.{range_end}
 use Rattle.base_bytes.specs.declared.ranges.ByteRange.{ByteRange}
 use Rattle.base_bytes.proofs.Fields.{bind_some}
-use Rattle.passes_codec.specs.Forms.{FileDraft, file_at}
+use Rattle.passes_codec.specs.Forms.{file_at}
 use Rattle.passes_codec.specs.Ranges.{HasFilesAt, counted_files}
 use Rattle.passes_codec.specs.declared.reading.ListRange.TheVariants.{New}
 

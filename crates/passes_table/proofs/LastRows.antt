@@ -1,17 +1,14 @@
 -- The last pass of the same tests is found among those of their fingerprint, and recalled where it is current.
-use Rattle.std.proofs.Common.{◌≡◌, ◌≢◌, ℕ, zero, suc, ◌<◌, ◌≤◌, Bool, true, false, true≢false, ◌&&◌, List, [], ◌∷◌, length, map, get_or, None, Some, Option, refl, sym, ap, subst, ◌∙◌, arith, inl, inr}
-use Rattle.std.specs.Prelude.{slice_get}
+use Rattle.std.proofs.Common.{◌≡◌, ◌≢◌, ℕ, zero, suc, ◌<◌, ◌≤◌, Bool, true, false, List, [], ◌∷◌, length, map, get_or, None, Some, Option, refl, sym, ap, subst, ◌∙◌, arith, inl, inr}
 use Rattle.std.specs.Bool.{Decides}
 use Rattle.std.specs.Str.{bytes_eq}
 use Rattle.std.specs.Cmp.Lexicographic.{pointwise, pointwise_decides}
-use Rattle.std.proofs.Math.Bool.{beq}
 use Rattle.std.proofs.lemmas.Bool.{cases_lt}
 use Rattle.std.proofs.lemmas.Bool.Decides.{Decides-like, Decides-and}
 use Rattle.std.proofs.lemmas.List.{get_or-map, length-map}
 use Rattle.std.proofs.lemmas.Option.{slice_get-get_or}
 use Rattle.std.proofs.lemmas.Slice.Eq.{bytes_eq-Decides}
 use Rattle.base_collections.specs.Indexes.{IsLastWith}
-use Rattle.base.specs.declared.graph.BuiltFile.{BuiltFile}
 use Rattle.testbench_runs.specs.declared.runs.TestRun.{TestRun}
 use Rattle.passes_spec.specs.Passes.{Pass, is_of_tests, last_pass}
 use Rattle.passes_table.specs.Fingerprints.{tests_fingerprint, with_text_fingerprint, with_text_fingerprints}
@@ -85,18 +82,22 @@ module _ (run : TestRun) (simulator : List (List ℕ)) where
     none_below : (bound : ℕ) → IsLastWith fingerprints (tests_fingerprint run simulator) bound None → (k : ℕ) → k < bound → k < length passes → is_of_tests run simulator (get_or passes k no_pass) ≡ false
     none_below bound last k low l = other k l (last k low)
 
-    pub up_none : IsUpTo passes fingerprints None → last_pass run simulator passes ≡ None
-    up_none up =
-        last_none passes (λ k l.
+    -- without a candidate no pass is of the tests
+    pub none_at : IsUpTo passes fingerprints None → (k : ℕ) → k < length passes → is_of_tests run simulator (get_or passes k no_pass) ≡ false
+    none_at up k l =
         elim (cases_lt k up.bound) [
           | inl a ↦ none_below up.bound up.last k a l
           | inr a ↦ up.others k a l
-        ])
+        ]
+
+    pub up_none : IsUpTo passes fingerprints None → last_pass run simulator passes ≡ None
+    up_none up = last_none passes (none_at up)
 
     pub up_low : (number : ℕ) → IsUpTo passes fingerprints (Some number) → number < length passes
     up_low number up = omega (arith, up.last.0, up.within, size)
 
-    after : (number : ℕ) → IsUpTo passes fingerprints (Some number) → (k : ℕ) → number < k → k < length passes → is_of_tests run simulator (get_or passes k no_pass) ≡ false
+    -- no pass after the candidate is of the tests
+    pub after : (number : ℕ) → IsUpTo passes fingerprints (Some number) → (k : ℕ) → number < k → k < length passes → is_of_tests run simulator (get_or passes k no_pass) ≡ false
     after number up k a l =
         elim (cases_lt k up.bound) [
           | inl b ↦ other k l (up.last.2 k a b)

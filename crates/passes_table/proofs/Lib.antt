@@ -8,6 +8,12 @@ pub mod Puts
 pub mod Takes
 pub mod Checks
 pub mod LastRows
+pub mod Kept
+pub mod KeptOn
+pub mod KeptRows
+pub mod KeptAll
+pub mod KeptLists
+pub mod KeptPayloads
 pub mod Recalled
 pub mod PendingFiles
 pub mod RowDrafts

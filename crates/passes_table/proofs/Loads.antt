@@ -1,5 +1,5 @@
 -- Payloads that are held, with one more, and the list of files over them.
-use Rattle.std.proofs.Common.{◌≡◌, ◌≢◌, ℕ, ◌+◌, ◌<◌, ◌≤◌, Bool, true, false, List, [], ◌∷◌, ◌++◌, length, map, get_or, Some, Result, Ok, Err, refl, sym, ap, subst, ◌∙◌, arith, length-append}
+use Rattle.std.proofs.Common.{◌≡◌, ◌≢◌, ℕ, List, [], ◌∷◌, ◌++◌, length, map, get_or, Some, Result, Ok, Err, refl, sym, ap, subst, ◌∙◌, arith}
 use Rattle.std.specs.Prelude.{All, AllPairs, OnErr, OnOk}
 use Rattle.std.proofs.lemmas.List.{append-nil, get_or_at, length-map}
 use Rattle.base.specs.declared.file.FileName.{FileName}
@@ -7,25 +7,25 @@ use Rattle.base.specs.declared.graph.BuiltFile.{BuiltFile}
 use Rattle.base_collections.specs.Splits.{AreSplit}
 use Rattle.store_table.specs.Located.{AreTextsLocated, HeldList, IsProductRow, located_texts, nth_payload, row_products}
 use Rattle.store_table.specs.declared.products.ProductRow.{ProductRow}
-use Rattle.store_table.proofs.Keeping.{Keeps, keeps_more, keeps_self, products_still}
+use Rattle.store_table.proofs.Keeping.{Keeps, keeps_self, products_still}
 use Rattle.store_table.proofs.Longer.{texts_still}
 use Rattle.passes_spec.specs.Passes.{Pass}
-use Rattle.passes_codec.specs.Forms.{FileDraft, ListRef, PassDraft, pass_in}
+use Rattle.passes_codec.specs.Forms.{ListRef, PassDraft, pass_in}
 use Rattle.passes_codec.specs.Forms.ListRef.{KnownList, NewList}
-use Rattle.passes_codec.specs.PassTables.{IsValidPass, PassTable, pass_table_of, with_list_texts, with_pass, with_texts_of}
+use Rattle.passes_codec.specs.PassTables.{IsValidPass, PassTable, pass_table_of, with_pass, with_texts_of}
 use Rattle.passes_table.specs.declared.additions.ListPart.{ListPart}
 use Rattle.passes_table.specs.declared.additions.ListPart.TheVariants.{Known, New}
 use Rattle.passes_table.specs.declared.lists.ListRow.{ListRow}
 use Rattle.passes_table.specs.declared.pending.PendingList.{PendingList}
 use Rattle.passes_table.specs.declared.table.LocatedPasses.{LocatedPasses}
 use Rattle.passes_table.specs.Additions.{IsListPart, is_new}
-use Rattle.passes_table.specs.Located.{ArePassesLocated, Extends, IsListRow, listed_files, located_passes, passes_by, row_pass}
+use Rattle.passes_table.specs.Located.{ArePassesLocated, Extends, IsListRow, listed_files, located_passes, passes_by}
 use Rattle.passes_codec.specs.Compaction.{FitsBuilt}
 use Rattle.passes_table.specs.Pending.{AreInOrder, IsPending, IsRenewed, IsWithFile, all_known, all_texts, fresh_in, pending_files}
 use Rattle.passes_table.specs.States.{AreLoaded, HasFresh}
 use Rattle.passes_table.proofs.Checks.{keeps_names}
 use Rattle.passes_table.proofs.PassRows.{fingerprints_still, pass_rows_still, rows_still}
-use Rattle.passes_table.proofs.PendingFiles.{order_here, pending_like}
+use Rattle.passes_table.proofs.PendingFiles.{order_here}
 use Rattle.passes_table.proofs.Takes.{table_more, took_pass, took_payload}
 
 -- ## More payloads

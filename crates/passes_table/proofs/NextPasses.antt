@@ -1,5 +1,5 @@
 -- The payload of one more pass over the list of files, by the number of the list or in full.
-use Rattle.std.proofs.Common.{◌≡◌, ◌≢◌, ℕ, ◌+◌, ◌^◌, ◌<◌, ◌≤◌, true, false, List, [], ◌∷◌, ◌++◌, length, map, take, get_or, Some, refl, sym, ap, subst, ◌∙◌, arith, length-append}
+use Rattle.std.proofs.Common.{◌≡◌, ℕ, ◌+◌, ◌^◌, ◌<◌, ◌≤◌, true, List, [], length, take, get_or, Some, refl, sym, ap, subst, ◌∙◌, arith, length-append}
 use Rattle.std.specs.Prelude.{Contains, slice_get}
 use Rattle.std.proofs.lemmas.List.{get_or-map, take_all, take_at}
 use Rattle.std.proofs.lemmas.Option.{get_or_from_slice_get, same_Some, slice_get_within}
@@ -16,7 +16,6 @@ use Rattle.passes_table.specs.declared.additions.NextPass.{NextPass}
 use Rattle.passes_table.specs.declared.writing.PassParts.{PassParts}
 use Rattle.passes_table.specs.Next.{HasPartsOfPass, IsNextOf, draft_of_parts}
 use Rattle.passes_table.specs.States.{HasFresh}
-use Rattle.passes_table.specs.declared.lists.ListRow.{ListRow}
 use Rattle.passes_table.specs.declared.pending.PendingList.{PendingList}
 use Rattle.passes_table.specs.declared.table.LocatedPasses.{LocatedPasses}
 use Rattle.passes_table.specs.Additions.{AreRowsOf, IsFoundList}

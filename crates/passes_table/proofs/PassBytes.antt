@@ -1,29 +1,33 @@
 -- The sizes of payloads of passes, that they can be spelled, and their frames.
-use Rattle.std.proofs.Common.{◌≡◌, ℕ, zero, suc, ◌+◌, ◌*◌, ◌^◌, ◌<◌, ◌≤◌, nat_lt, Bool, true, false, List, [], ◌∷◌, ◌++◌, length, get_or, refl, sym, ap, subst, ◌∙◌, arith, append_assoc, length-append}
+use Rattle.std.proofs.Common.{◌≡◌, ℕ, zero, suc, ◌+◌, ◌*◌, ◌^◌, ◌<◌, ◌≤◌, nat_lt, Bool, true, false, List, [], ◌∷◌, ◌++◌, length, get_or, Option, Some, None, refl, ap, ◌∙◌, arith, append_assoc, length-append}
 use Rattle.std.specs.Prelude.{All, sum_by}
-use Rattle.std.specs.Int.{w64, to_le_bytes}
-use Rattle.std.specs.List.{flat_map}
+use Rattle.std.specs.List.{flat_map, position}
+use Rattle.std.specs.Str.{bytes_eq}
+use Rattle.std.proofs.lemmas.List.Elements.{All-head, All-tail}
 use Rattle.std.proofs.lemmas.List.Sums.{get_or-le-sum_by, sum_by-cons, sum_by-le}
 use Rattle.base.specs.declared.file.FileName.{FileName}
 use Rattle.base.specs.declared.graph.BuiltFile.{BuiltFile}
-use Rattle.base.specs.declared.limits.TheConstants.{CASE_LIMIT, FILE_LIMIT, PATH_LIMIT, TEXT_LIMIT}
 use Rattle.base.specs.Bytes.{number_bytes, text_bytes}
+use Rattle.base.specs.Jobs.{name_bytes}
 use Rattle.base.specs.Names.{FitsCommand}
-use Rattle.base_bytes.specs.TextRefs.{TextRef}
-use Rattle.base_bytes.specs.TextRefs.TextRef.{ByNumber, InFull}
-use Rattle.store_codec.specs.Forms.{HasRefSpelling}
+use Rattle.store_codec.specs.Compaction.{with_compacted_text}
+use Rattle.store_codec.specs.Forms.{HasRefSpelling, text_ref_bytes}
+use Rattle.store_codec.specs.Writing.{ref_or}
 use Rattle.store_codec.proofs.Sized.{length-long, length-short, length-text}
-use Rattle.store_table.specs.Located.{IsProductRow, no_name, row_product, row_products}
+use Rattle.store_journal.specs.Payloads.{block}
+use Rattle.store_table.specs.Located.{IsProductRow, row_product, row_products}
 use Rattle.store_table.specs.declared.products.ProductRow.{ProductRow}
 use Rattle.testbench_runs.specs.declared.runs.TestRun.{TestRun}
 use Rattle.testbench_runs.specs.declared.ends.TheConstants.{SHOWN_LIMIT}
 use Rattle.testbench_runs.specs.BenchJobs.{texts_bytes}
 use Rattle.testbench_runs.specs.Runs.{FitsRun}
-use Rattle.passes_codec.specs.Forms.{FileDraft, HasFileSpelling, HasListSpelling, HasPassSpelling, HasRunSpelling, ListRef, PassDraft, file_bytes, files_bytes, flag_byte, list_ref_bytes, pass_bytes, run_bytes}
+use Rattle.passes_codec.specs.Forms.{FileDraft, HasFileSpelling, HasListSpelling, HasPassSpelling, HasRunSpelling, ListRef, file_bytes, files_bytes, flag_byte, list_ref_bytes, pass_bytes, run_bytes}
 use Rattle.passes_codec.specs.Forms.ListRef.{KnownList, NewList}
 use Rattle.passes_table.specs.declared.writing.TheConstants.{FILE_SIZE, HEAD_SIZE}
-use Rattle.passes_codec.specs.Compaction.{FitsBuilt}
-use Rattle.passes_table.specs.Pending.{known_after, row_draft, row_drafts, row_ref}
+use Rattle.passes_spec.specs.Passes.{Pass}
+use Rattle.passes_codec.specs.Compaction.{FitsBuilt, FitsPass, list_or, spelled_files, spelled_pass}
+use Rattle.passes_codec.specs.PassTables.{PassTable, is_same_list}
+use Rattle.passes_table.specs.Pending.{known_after, row_drafts, row_ref}
 
 texts_size : (texts : List (List ℕ)) → length (flat_map text_bytes texts) ≡ sum_by (λ text. length text) texts + 4 * length texts
 texts_size [] = refl
@@ -68,22 +72,6 @@ words_size words fits = omega (arith, listed_size words, sum_by-le (λ (word : L
 pub head_size : (run : TestRun) (simulator : List (List ℕ)) → FitsRun run → FitsCommand simulator → length (run_bytes run ++ texts_bytes simulator) ≤ HEAD_SIZE
 head_size run simulator fits command = omega (arith, length-append (run_bytes run) (texts_bytes simulator), run_size run fits, words_size simulator command)
 
-pub known_small : (run : TestRun) (simulator : List (List ℕ)) (number : ℕ) (output : List ℕ) → FitsRun run → FitsCommand simulator → length output ≤ SHOWN_LIMIT → length (pass_bytes (record { run = run; simulator = simulator; list = KnownList number; output = output })) < 2 ^ 32
-unfolding pass_bytes list_ref_bytes
-known_small run simulator number output fits command small =
-    let l : List ℕ = 0 ∷ to_le_bytes w64 number in
-    omega (
-      arith,
-      length-append (run_bytes run) (texts_bytes simulator ++ (l ++ text_bytes output)),
-      length-append (texts_bytes simulator) (l ++ text_bytes output),
-      length-append l (text_bytes output),
-      length-long number,
-      length-text output,
-      run_size run fits,
-      words_size simulator command,
-      small,
-    )
-
 -- ## Frames
 
 regroup : (n r s c f o : List ℕ) → (((n ++ (r ++ s)) ++ 1 ∷ c) ++ f) ++ o ≡ n ++ (r ++ (s ++ ((1 ∷ (c ++ f)) ++ o)))
@@ -97,20 +85,98 @@ new_frame frame size count run simulator files output as_many e =
     ∙ ap (λ (n : ℕ). (((number_bytes size ++ (run_bytes run ++ texts_bytes simulator)) ++ 1 ∷ number_bytes n) ++ flat_map file_bytes files) ++ text_bytes output) as_many
     ∙ regroup (number_bytes size) (run_bytes run) (texts_bytes simulator) (number_bytes (length files)) (flat_map file_bytes files) (text_bytes output)
 
-pub new_length : (run : TestRun) (simulator : List (List ℕ)) (files : List FileDraft) (output : List ℕ) → length (pass_bytes (record { run = run; simulator = simulator; list = NewList files; output = output })) ≡ length (run_bytes run ++ texts_bytes simulator) + 5 + length (flat_map file_bytes files) + 4 + length output
-unfolding pass_bytes list_ref_bytes files_bytes
-new_length run simulator files output =
-    let l : List ℕ = 1 ∷ (number_bytes (length files) ++ flat_map file_bytes files) in
+-- the bytes of a payload on a side
+pub block_size : (payload : List ℕ) → length (block payload) ≡ length payload + 5
+unfolding block
+block_size payload = omega (arith, length-text payload)
+
+-- the bytes of a pass
+pub pass_size : (run : TestRun) (simulator : List (List ℕ)) (list : ListRef) (output : List ℕ) → length (pass_bytes (record { run = run; simulator = simulator; list = list; output = output })) ≡ length (run_bytes run ++ texts_bytes simulator) + length (list_ref_bytes list) + 4 + length output
+unfolding pass_bytes
+pass_size run simulator list output =
+    let l : List ℕ = list_ref_bytes list in
     omega (
       arith,
       length-append (run_bytes run) (texts_bytes simulator ++ (l ++ text_bytes output)),
       length-append (texts_bytes simulator) (l ++ text_bytes output),
       length-append l (text_bytes output),
-      length-append (number_bytes (length files)) (flat_map file_bytes files),
-      length-short (length files),
       length-text output,
       length-append (run_bytes run) (texts_bytes simulator),
     )
+
+-- the bytes of a list by its number, and of a new list
+pub known_list_size : (number : ℕ) → length (list_ref_bytes (KnownList number)) ≡ 9
+unfolding list_ref_bytes
+known_list_size number = omega (arith, length-long number)
+
+pub new_list_size : (files : List FileDraft) → length (list_ref_bytes (NewList files)) ≡ 5 + length (flat_map file_bytes files)
+unfolding list_ref_bytes files_bytes
+new_list_size files = omega (arith, length-append (number_bytes (length files)) (flat_map file_bytes files), length-short (length files))
+
+pub new_length : (run : TestRun) (simulator : List (List ℕ)) (files : List FileDraft) (output : List ℕ) → length (pass_bytes (record { run = run; simulator = simulator; list = NewList files; output = output })) ≡ length (run_bytes run ++ texts_bytes simulator) + 5 + length (flat_map file_bytes files) + 4 + length output
+new_length run simulator files output = omega (arith, pass_size run simulator (NewList files) output, new_list_size files)
+
+pub known_small : (run : TestRun) (simulator : List (List ℕ)) (number : ℕ) (output : List ℕ) → FitsRun run → FitsCommand simulator → length output ≤ SHOWN_LIMIT → length (pass_bytes (record { run = run; simulator = simulator; list = KnownList number; output = output })) < 2 ^ 32
+known_small run simulator number output fits command small = omega (arith, pass_size run simulator (KnownList number) output, known_list_size number, head_size run simulator fits command, small)
+
+-- ## Passes over a table
+
+-- the bytes of a text, by its number or in full
+abbrev pub ref_counted : Option ℕ → List ℕ → ℕ
+ref_counted (Some number) text = 9
+ref_counted None text = length text + 5
+
+ref_size : (known : Option ℕ) (text : List ℕ) → length (text_ref_bytes (ref_or known text)) ≡ ref_counted known text
+unfolding text_ref_bytes
+ref_size None text = omega (arith, length-text text)
+ref_size (Some number) text = omega (arith, length-long number)
+
+-- the bytes of a file of a list
+pub file_size : (name : FileName) (text : List ℕ) (known : Option ℕ) → length (file_bytes (record { name = name; artefact = ref_or known text })) ≡ 8 + length name.library + length name.path + ref_counted known text
+unfolding file_bytes name_bytes
+file_size name text known =
+    let n : List ℕ = text_bytes name.library ++ text_bytes name.path in
+    omega (
+      arith,
+      length-append n (text_ref_bytes (ref_or known text)),
+      length-append (text_bytes name.library) (text_bytes name.path),
+      length-text name.library,
+      length-text name.path,
+      ref_size known text,
+    )
+
+file_small : (file : BuiltFile) (known : Option ℕ) → FitsBuilt file → length (file_bytes (record { name = file.name; artefact = ref_or known file.artefact })) ≤ FILE_SIZE
+file_small file None fits = omega (arith, file_size file.name file.artefact None, fits.name.library.at_most, fits.name.path.at_most, fits.artefact)
+file_small file (Some number) fits = omega (arith, file_size file.name file.artefact (Some number), fits.name.library.at_most, fits.name.path.at_most)
+
+files_small : (texts : List (List ℕ)) (files : List BuiltFile) → All FitsBuilt files → length (flat_map file_bytes (spelled_files texts files)) ≤ length files * FILE_SIZE
+unfolding spelled_files
+files_small texts [] fits = omega arith
+files_small texts (file ∷ files) fits =
+    let known : Option ℕ = position (λ other. bytes_eq other file.artefact) texts in
+    let one : List ℕ = file_bytes (record { name = file.name; artefact = ref_or known file.artefact }) in
+    let after : List (List ℕ) = with_compacted_text texts file.artefact in
+    omega (
+      arith,
+      length-append one (flat_map file_bytes (spelled_files after files)),
+      file_small file known (All-head FitsBuilt file files fits),
+      files_small after files (All-tail FitsBuilt file files fits),
+    )
+
+-- the payload of a pass within the limits has fewer than 2^32 bytes
+pub spelled_small : (table : PassTable) (pass : Pass) → FitsPass pass → length (pass_bytes (spelled_pass table pass)) < 2 ^ 32
+spelled_small table pass fits = by (position (λ other. is_same_list other pass.built) table.lists)
+  where
+    by : (known : Option ℕ) → length (pass_bytes (record { run = pass.run; simulator = pass.simulator; list = list_or known (spelled_files table.texts pass.built); output = pass.output })) < 2 ^ 32
+    by None = omega (
+      arith,
+      new_length pass.run pass.simulator (spelled_files table.texts pass.built) pass.output,
+      head_size pass.run pass.simulator fits.run fits.simulator,
+      files_small table.texts pass.built fits.files,
+      fits.few,
+      fits.output,
+    )
+    by (Some number) = known_small pass.run pass.simulator number pass.output fits.run fits.simulator fits.output
 
 -- ## What can be spelled
 

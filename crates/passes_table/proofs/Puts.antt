@@ -1,28 +1,25 @@
 -- One more list or pass in a table.
-use Rattle.std.proofs.Common.{◌≡◌, ◌≢◌, ℕ, ◌+◌, ◌<◌, ◌≤◌, true, false, true≢false, List, [], ◌∷◌, ◌++◌, length, map, get_or, refl, sym, ap, subst, ◌∙◌, arith, length-append}
+use Rattle.std.proofs.Common.{◌≡◌, ℕ, ◌<◌, ◌≤◌, true≢false, List, [], ◌∷◌, ◌++◌, length, map, get_or, refl, sym, ap, subst, ◌∙◌, arith, length-append}
 use Rattle.std.specs.Prelude.{All, Contains}
-use Rattle.std.specs.List.{list_any}
 use Rattle.std.proofs.lemmas.List.{get_or-map, get_or_at, length-map, map-append}
 use Rattle.std.proofs.lemmas.List.Elements.{All-push}
 use Rattle.base.specs.declared.file.FileName.{FileName}
 use Rattle.base.specs.declared.graph.BuiltFile.{BuiltFile}
 use Rattle.base_bytes.specs.TextRefs.{with_text}
-use Rattle.store_table.specs.Located.{IsProductRow, row_product, row_products}
-use Rattle.store_table.specs.declared.products.ProductRow.{ProductRow}
+use Rattle.store_table.specs.Located.{IsProductRow, row_products}
 use Rattle.store_table.proofs.Finding.{any_decides}
 use Rattle.store_table.proofs.Keeping.{Keeps, keeps_both, keeps_more, keeps_self, keeps_text, products_still}
 use Rattle.passes_spec.specs.Passes.{Pass}
 use Rattle.passes_codec.specs.Forms.{FileDraft, ListRef, PassDraft}
 use Rattle.passes_codec.specs.Forms.ListRef.{KnownList, NewList}
-use Rattle.passes_codec.specs.PassTables.{IsListRef, IsValidPass, PassTable, drafted_files, drafted_pass, is_same_list, told_list, with_list, with_list_texts, with_pass, with_texts_of}
+use Rattle.passes_codec.specs.PassTables.{IsListRef, PassTable, drafted_files, drafted_pass, told_list, with_list, with_list_texts, with_pass, with_texts_of}
 use Rattle.passes_codec.proofs.Deciding.{same_list-Decides}
-use Rattle.passes_table.specs.declared.additions.ListPart.{ListPart}
 use Rattle.passes_table.specs.declared.additions.ListPart.TheVariants.{Known, New}
 use Rattle.passes_table.specs.declared.lists.ListRow.{ListRow}
 use Rattle.passes_table.specs.declared.table.PassRow.{PassRow}
 use Rattle.passes_table.specs.Additions.{AreRowsOf, HasListedFiles, IsListPart, with_list_of}
 use Rattle.passes_table.specs.Located.{IsListRow, IsPassRow, listed_files, passes_by, row_pass}
-use Rattle.passes_table.proofs.PassRows.{list_rows_still, lists_still, no_list, rows_still}
+use Rattle.passes_table.proofs.PassRows.{list_rows_still, lists_still, rows_still}
 
 pub keeps_list : (texts : List (List ℕ)) (files : List FileDraft) → Keeps texts (with_list_texts texts files)
 unfolding with_list_texts

@@ -12,7 +12,7 @@ use Rattle.std.proofs.lemmas.Slice.Eq.{bytes_eq-Decides}
 use Rattle.base.specs.declared.graph.BuiltFile.{BuiltFile}
 use Rattle.testbench_runs.specs.declared.runs.TestRun.{TestRun}
 use Rattle.passes_spec.specs.Passes.{Pass, is_of_tests, last_pass}
-use Rattle.passes_spec.specs.KnownRuns.{is_current, is_same_run, output_for, output_if, recalled}
+use Rattle.passes_spec.specs.KnownRuns.{is_current, output_for, output_if, recalled}
 use Rattle.passes_codec.proofs.Deciding.{same_list-Decides}
 use Rattle.passes_table.specs.States.{HasRest, HasTests, IsLastRow}
 use Rattle.passes_table.proofs.LastRows.{of_tests-Decides}

@@ -1,7 +1,6 @@
 -- The bytes of the files of the list that tests run over, row by row.
-use Rattle.std.proofs.Common.{◌≡◌, ℕ, zero, suc, ◌+◌, ◌*◌, ◌<◌, ◌≤◌, nat_lt, Bool, true, false, List, [], ◌∷◌, ◌++◌, length, map, take, get_or, Some, refl, sym, ap, subst, ◌∙◌, arith, append_assoc, length-append}
-use Rattle.std.specs.Prelude.{All, Contains}
-use Rattle.std.specs.Int.{w64, to_le_bytes}
+use Rattle.std.proofs.Common.{◌≡◌, ℕ, zero, suc, ◌+◌, ◌<◌, ◌≤◌, nat_lt, Bool, true, false, List, [], ◌∷◌, ◌++◌, length, take, get_or, refl, ap, subst, ◌∙◌, arith, length-append}
+use Rattle.std.specs.Prelude.{Contains}
 use Rattle.std.specs.List.{flat_map}
 use Rattle.std.proofs.lemmas.Bool.{ltb-true}
 use Rattle.std.proofs.lemmas.Bool.Decides.{Decides-ltb}
@@ -19,7 +18,7 @@ use Rattle.store_table.specs.declared.products.ProductRow.{ProductRow}
 use Rattle.passes_codec.specs.Forms.{FileDraft, file_bytes}
 use Rattle.passes_table.specs.declared.pending.PendingList.{PendingList}
 use Rattle.passes_codec.specs.Compaction.{FitsBuilt}
-use Rattle.passes_table.specs.Pending.{AreInOrder, IsPending, all_known, all_texts, known_after, row_draft, row_drafts, row_ref}
+use Rattle.passes_table.specs.Pending.{AreInOrder, IsPending, all_known, all_texts, known_after, row_draft, row_drafts}
 use Rattle.passes_table.proofs.PendingFiles.{known_push}
 use Rattle.passes_table.proofs.RowDrafts.{drafts_push}
 

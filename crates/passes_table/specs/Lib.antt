@@ -6,3 +6,4 @@ pub mod Additions
 pub mod Pending
 pub mod States
 pub mod Next
+pub mod Kept

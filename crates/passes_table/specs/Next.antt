@@ -1,6 +1,7 @@
 -- The payload of one more pass over the list of files that tests run over.
 use Rattle.std.specs.Prelude.{◌≡◌, ℕ, ◌≤◌, List, length, Some}
 use Rattle.base.specs.Names.{FitsCommand}
+use Rattle.base.specs.declared.graph.BuiltFile.{BuiltFile}
 use Rattle.testbench_runs.specs.declared.ends.TheConstants.{SHOWN_LIMIT}
 use Rattle.testbench_runs.specs.Runs.{FitsRun}
 use Rattle.store_table.specs.Located.{located_texts}
@@ -27,9 +28,13 @@ pub record HasPartsOfPass (parts : PassParts) : Type 0 where
 abbrev pub draft_of_parts : PassParts → ListRef → PassDraft
 draft_of_parts parts list = record { run = parts.run.now; simulator = parts.simulator.now; list = list; output = parts.output.now }
 
+-- parts as a pass over built files
+abbrev pub pass_over : PassParts → List BuiltFile → Pass
+pass_over parts built = record { run = parts.run.now; simulator = parts.simulator.now; built = built; output = parts.output.now }
+
 -- parts as a pass over the files of the list
 abbrev pub pass_of_parts : (segments : List (List ℕ)) → LocatedPasses → PendingList → PassParts → Pass
-pass_of_parts segments table list parts = record { run = parts.run.now; simulator = parts.simulator.now; built = pending_files table.names.keys (located_texts segments table.texts) list; output = parts.output.now }
+pass_of_parts segments table list parts = pass_over parts (pending_files table.names.keys (located_texts segments table.texts) list)
 
 -- A payload is that of the pass of these parts over the files of the list.
 pub record IsNextOf (segments : List (List ℕ)) (table : LocatedPasses) (list : PendingList) (parts : PassParts) (next : NextPass) : Type 0 where

@@ -1,5 +1,5 @@
 -- Passes that are held, the list of files that tests run over, and what one more pass adds.
-use Rattle.std.specs.Prelude.{◌≡◌, ⊤, ℕ, ◌-◌, ◌<◌, ◌≤◌, min, List, [], ◌∷◌, ◌++◌, length, Option, Some, None, slice_get}
+use Rattle.std.specs.Prelude.{◌≡◌, ⊤, ℕ, ◌-◌, ◌<◌, ◌≤◌, min, List, ◌++◌, length, Option, Some, None, slice_get}
 use Rattle.std.specs.Vec.{vec_len, vec_capacity}
 use Rattle.base.specs.declared.file.FileName.{FileName}
 use Rattle.base.specs.declared.graph.BuiltFile.{BuiltFile}

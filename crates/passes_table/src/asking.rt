@@ -26,7 +26,12 @@ fn is_text(bytes: &[u8], range: ByteRange, text: &Text) -> bool
 }
 
 /// Whether a pass is of the same tests as a run with a simulator.
-fn is_of_tests(held: &HeldPayloads<'_>, row: PassRow, run: &TestRun, simulator: &TextList) -> bool
+pub fn is_of_tests(
+    held: &HeldPayloads<'_>,
+    row: PassRow,
+    run: &TestRun,
+    simulator: &TextList,
+) -> bool
     requires { row.payload < length held.now.segments }
     ensures { (lists : List (List BuiltFile)) →
         IsTrue result ↔ HasTests run.now simulator.now (row_pass held.now.segments lists row) }

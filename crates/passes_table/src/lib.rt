@@ -6,6 +6,8 @@
 mod additions;
 mod asking;
 mod checking;
+mod compacting;
+mod counting;
 mod fingerprints;
 mod lists;
 mod loaded;

@@ -1,16 +1,23 @@
 //! Payloads of passes with their table, and the list of the built files that tests run over.
 
 ghost use Rattle.std.specs.Prelude.{◌≡◌, ◌<◌, ◌≤◌, ◌++◌, ◌∷◌, [], length, IfOk, IfSome, OnErr, OnOk, option_map};
+ghost use Rattle.std.specs.List.{flat_map};
 ghost use Rattle.base.specs.Names.{FitsCommand, FitsName};
 ghost use Rattle.base.specs.declared.limits.TheConstants.{ARTEFACT_LIMIT, FILE_LIMIT};
 ghost use Rattle.testbench_runs.specs.declared.ends.TheConstants.{SHOWN_LIMIT};
 ghost use Rattle.testbench_runs.specs.Runs.{FitsRun};
+ghost use Rattle.store_journal.specs.DeadBytes.{capped_length};
+ghost use Rattle.store_journal.specs.Payloads.{block};
 ghost use Rattle.passes_spec.specs.KnownRuns.{recalled};
+ghost use Rattle.passes_spec.specs.Passes.{last_passes};
+ghost use Rattle.passes_codec.specs.Compaction.{compacted_passes};
 ghost use Rattle.passes_codec.specs.PassTables.{passes_among};
 ghost use Rattle.passes_table.specs.States.{AddsPass, added_pass};
 ghost use Rattle.passes_table.specs.Additions.{is_new};
 
 use crate::asking::recalled_output;
+use crate::compacting::last_payloads;
+use crate::counting::kept_length;
 use crate::putting::put_pass;
 use crate::taking::taken_up;
 use crate::writing::{PassParts, next_pass};
@@ -142,6 +149,24 @@ impl LoadedPasses {
         };
         let next = next_pass(alloc, &self.held, &self.table, &self.list, parts)?;
         Ok(next)
+    }
+
+    /// The payloads that keep the last pass of the same tests, and nothing else.
+    pub fn last_payloads(&self, alloc: Global) -> Result<Payloads, NoMemory>
+        ensures is { IfOk result
+            (λ kept. kept ≡ compacted_passes (passes_among self.now.payloads)) }
+        ensures passes { IfOk result
+            (λ kept. passes_among kept ≡ last_passes (passes_among self.now.payloads)) }
+    {
+        last_payloads(alloc, &self.held, &self.table)
+    }
+
+    /// The number of bytes of a side of these last payloads, up to the greatest number of 64 bits. None of them is made.
+    pub fn kept_length(&self, alloc: Global) -> Result<u64, NoMemory>
+        ensures { let kept = compacted_passes (passes_among self.now.payloads) in
+            IfOk result (λ counted. counted ≡ capped_length (length (flat_map block kept))) }
+    {
+        kept_length(alloc, &self.held, &self.table)
     }
 
     /// Adds a payload that was prepared, at the end. The files are unchanged. It takes no memory.

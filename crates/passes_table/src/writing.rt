@@ -28,7 +28,10 @@ use store_table::{HeldPayloads, ProductRow, text_at};
 use testbench_runs::TestRun;
 
 /// The most bytes of a file of a new list: its name of 1,088 bytes, its artefact of 262,144, their lengths and a tag.
-const FILE_SIZE: usize = 263_245;
+pub const FILE_SIZE: usize = 263_245;
+
+/// The most bytes of a new list: its tag, the count of its files, and 4,096 files.
+pub const LIST_SIZE: usize = 1_078_251_525;
 
 /// The most bytes of a run and of the words of a simulator.
 const HEAD_SIZE: usize = 17_200_000;
@@ -208,7 +211,7 @@ fn files_size(held: &HeldPayloads<'_>, table: &LocatedPasses, list: &PendingList
 }
 
 /// The run and the words of the simulator, with which a payload begins.
-fn head_of(alloc: Global, parts: PassParts<'_>) -> Result<ByteWriter, NoMemory>
+pub fn head_of(alloc: Global, parts: PassParts<'_>) -> Result<ByteWriter, NoMemory>
     requires { HasPartsOfPass parts }
     ensures is { IfOk result
         (λ head. head ≡ run_bytes parts.entry.run.now ++ texts_bytes parts.entry.simulator.now) }

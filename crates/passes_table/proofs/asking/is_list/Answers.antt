@@ -1,4 +1,4 @@
-use Rattle.std.proofs.Common.{◌≡◌, ◌<◌, ◌++◌, ℕ, List, [], length, map, get_or, refl, sym, ap, ◌∙◌, arith}
+use Rattle.std.proofs.Common.{◌≡◌, ℕ, List, [], map, get_or, refl, sym, ap, ◌∙◌, arith}
 use Rattle.std.proofs.lemmas.List.{get_or-map}
 use Rattle.std.proofs.lemmas.Option.{get_or_from_slice_get, slice_get_within}
 use Rattle.base.specs.declared.file.FileName.{FileName}
@@ -8,7 +8,7 @@ use Rattle.store_table.proofs.Keeping.{keeps_more, keeps_self, products_still}
 use Rattle.passes_table.specs.declared.lists.ListRow.{ListRow}
 use Rattle.passes_table.specs.ListRows.{list_rows_decide}
 use Rattle.passes_table.specs.Located.{listed_files}
-use Rattle.passes_table.specs.Pending.{all_texts, fresh_in, pending_files}
+use Rattle.passes_table.specs.Pending.{all_texts, fresh_in}
 use Rattle.passes_table.proofs.Checks.{list_rows_in, rows_same}
 use Rattle.passes_table.proofs.asking.is_list.Goals as goal
 

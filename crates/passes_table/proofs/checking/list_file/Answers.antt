@@ -1,9 +1,8 @@
-use Rattle.std.proofs.Common.{◌≡◌, ℕ, List, [], ◌∷◌, ◌++◌, true, true≢false, ap, sym, subst, ◌∙◌}
+use Rattle.std.proofs.Common.{◌≡◌, ℕ, List, [], ◌∷◌, ◌++◌, true≢false, ap, sym, subst, ◌∙◌}
 use Rattle.std.proofs.lemmas.Option.{get_or_from_slice_get}
 use Rattle.base.specs.declared.file.FileName.{FileName}
 use Rattle.base.specs.Names.{FitsName}
 use Rattle.base_bytes.specs.Ranges.{ranged}
-use Rattle.base_bytes.specs.TextRefs.{ref_in_range}
 use Rattle.store_table.specs.Checked.{IsNameNumber}
 use Rattle.store_table.specs.Located.{located_texts, nth_payload}
 use Rattle.store_table.specs.declared.products.ProductRow.{ProductRow}
@@ -12,7 +11,7 @@ use Rattle.passes_codec.specs.Forms.{FileDraft}
 use Rattle.passes_codec.specs.PassTables.{with_list_texts}
 use Rattle.passes_codec.specs.Ranges.{file_in_ranges}
 use Rattle.passes_table.specs.Additions.{AreListed, IsCheckedArtefact}
-use Rattle.passes_table.proofs.Checks.{listed_next, not_artefact, not_named}
+use Rattle.passes_table.proofs.Checks.{listed_next, not_named}
 use Rattle.passes_table.proofs.checking.list_file.Goals as goal
 
 pub returns-then-not-is_within_limits-clause-listed : goal.returns-then-not-is_within_limits-clause-listed

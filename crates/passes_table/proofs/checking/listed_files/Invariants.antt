@@ -1,4 +1,4 @@
-use Rattle.std.proofs.Common.{◌≡◌, List, ℕ}
+use Rattle.std.proofs.Common.{◌≡◌, List}
 use Rattle.store_table.specs.Located.{located_texts, nth_payload}
 use Rattle.passes_codec.specs.Forms.{FileDraft}
 use Rattle.passes_table.specs.Additions.{AreListed}

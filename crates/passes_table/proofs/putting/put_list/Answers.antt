@@ -1,16 +1,13 @@
-use Rattle.std.proofs.Common.{◌≡◌, ◌++◌, ◌∷◌, [], ℕ, List, length, length-append, ap, sym, subst, ◌∙◌, arith}
-use Rattle.std.proofs.lemmas.List.{length-map}
-use Rattle.store_table.specs.Located.{located_text, located_texts, nth_payload}
+use Rattle.std.proofs.Common.{ℕ, List, subst}
+use Rattle.store_table.specs.Located.{located_texts, nth_payload}
 use Rattle.passes_codec.specs.Forms.{ListRef}
-use Rattle.passes_codec.specs.PassTables.{IsListRef}
 use Rattle.passes_codec.specs.Ranges.{list_in_range}
 use Rattle.passes_table.specs.Additions.{IsListPart}
-use Rattle.passes_table.specs.Located.{located_passes}
 use Rattle.passes_table.specs.declared.additions.ListPart.{ListPart}
 use Rattle.passes_table.specs.declared.lists.ListRow.{ListRow}
 use Rattle.store_table.proofs.Keeping.{keeps_self}
 use Rattle.passes_table.proofs.PassRows.{pass_rows_still}
-use Rattle.passes_table.proofs.Puts.{known_texts, known_there, known_told, listed_of, new_is, new_lists, new_more, new_row, new_told}
+use Rattle.passes_table.proofs.Puts.{new_is, new_lists, new_more, new_row}
 use Rattle.passes_table.proofs.putting.put_list.Goals as goal
 
 pub put-requires-clause-new : goal.put-requires-clause-new

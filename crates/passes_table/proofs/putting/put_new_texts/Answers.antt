@@ -1,16 +1,15 @@
-use Rattle.std.proofs.Common.{◌≡◌, ◌+◌, ◌≤◌, ℕ, List, [], ◌∷◌, ◌++◌, length, drop, true, None, Some, refl, sym, ap, subst, ◌∙◌, arith}
+use Rattle.std.proofs.Common.{◌≡◌, ℕ, List, [], length, drop, true, None, Some, sym, ap, subst, ◌∙◌, arith}
 use Rattle.std.specs.Prelude.{⊤}
 use Rattle.std.specs.Int.{w32}
-use Rattle.std.proofs.lemmas.List.{length-map}
 use Rattle.std.proofs.lemmas.Option.{get_or_from_slice_get}
 use Rattle.base_bytes.specs.Reading.{number_at}
 use Rattle.base_bytes.specs.Ranges.{IsReadAt}
 use Rattle.base_bytes.specs.TextRefs.{is_text_ref, with_text}
-use Rattle.store_table.specs.Located.{located_text, located_texts, nth_payload, text_room}
+use Rattle.store_table.specs.Located.{located_texts, nth_payload}
 use Rattle.passes_codec.specs.Forms.{FileDraft, file_at}
 use Rattle.passes_codec.specs.PassTables.{with_list_texts}
 use Rattle.passes_codec.specs.Ranges.{counted_files, file_in_ranges}
-use Rattle.passes_table.proofs.Files.{FilesSoFar, IsFileAt, files_begin, files_end, files_go_on, files_rest, files_stop, no_files_count}
+use Rattle.passes_table.proofs.Files.{IsFileAt, files_begin, files_end, files_go_on, files_rest, files_stop, no_files_count}
 use Rattle.passes_table.proofs.NewLists.{next_fits, next_ref, texts_none, texts_push}
 use Rattle.passes_table.proofs.putting.put_new_texts.Goals as goal
 

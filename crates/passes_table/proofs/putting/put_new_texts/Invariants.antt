@@ -1,4 +1,4 @@
-use Rattle.std.proofs.Common.{◌≡◌, ◌+◌, ◌≤◌, length, List, ℕ}
+use Rattle.std.proofs.Common.{◌≡◌, ◌+◌, ◌≤◌, length, List}
 use Rattle.store_table.specs.Located.{AreTextsLocated, located_texts, nth_payload, text_room}
 use Rattle.passes_codec.specs.Forms.{FileDraft}
 use Rattle.passes_codec.specs.PassTables.{with_list_texts}

@@ -1,19 +1,14 @@
-use Rattle.std.proofs.Common.{◌≡◌, ◌<◌, ◌++◌, ◌∷◌, [], ℕ, List, length, map, ap, sym, subst, ◌∙◌}
+use Rattle.std.proofs.Common.{◌≡◌, ◌++◌, ◌∷◌, [], ℕ, List, map, ap, sym, subst, ◌∙◌}
 use Rattle.std.specs.Prelude.{All}
 use Rattle.std.proofs.lemmas.List.{map-append}
 use Rattle.std.proofs.lemmas.List.Elements.{All-push}
 use Rattle.std.proofs.lemmas.Option.{get_or_from_slice_get}
-use Rattle.base.specs.declared.graph.BuiltFile.{BuiltFile}
 use Rattle.base_bytes.specs.Ranges.{counted_words}
-use Rattle.store_table.specs.Located.{located_texts, nth_payload}
-use Rattle.passes_spec.specs.Passes.{Pass}
-use Rattle.passes_codec.specs.Forms.{PassDraft}
-use Rattle.passes_codec.specs.PassTables.{PassTable}
-use Rattle.passes_codec.specs.Ranges.{pass_in_ranges, run_in_ranges}
+use Rattle.store_table.specs.Located.{nth_payload}
+use Rattle.passes_codec.specs.Ranges.{run_in_ranges}
 use Rattle.passes_table.specs.declared.table.PassRow.{PassRow}
-use Rattle.passes_table.specs.Located.{IsPassRow, located_passes, row_fingerprint, row_pass}
+use Rattle.passes_table.specs.Located.{IsPassRow, row_fingerprint}
 use Rattle.passes_table.specs.Fingerprints.{tests_fingerprint}
-use Rattle.passes_table.proofs.Puts.{pass_is}
 use Rattle.passes_table.proofs.putting.put_pass.Goals as goal
 
 pub returns-clause-are : goal.returns-clause-are

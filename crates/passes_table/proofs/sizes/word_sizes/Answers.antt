@@ -1,4 +1,4 @@
-use Rattle.std.proofs.Common.{◌≡◌, ◌+◌, ◌≤◌, Some, ℕ, List, [], ◌∷◌, ◌++◌, drop, length, sum_by, refl, sym, ap, ◌∙◌, arith}
+use Rattle.std.proofs.Common.{◌≡◌, ◌+◌, ◌≤◌, Some, ℕ, List, drop, length, sum_by, refl, sym, ap, ◌∙◌, arith}
 use Rattle.std.specs.Int.{w32}
 use Rattle.base_bytes.specs.Reading.{number_at}
 use Rattle.base_bytes.proofs.CountedWords.{uncounted_words}

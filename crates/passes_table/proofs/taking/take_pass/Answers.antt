@@ -1,4 +1,4 @@
-use Rattle.std.proofs.Common.{◌≡◌, ℕ, List, ap, sym, subst, ◌∙◌}
+use Rattle.std.proofs.Common.{◌≡◌, ℕ, List, ap, subst, ◌∙◌}
 use Rattle.store_table.specs.Located.{nth_payload}
 use Rattle.passes_codec.specs.Forms.{PassDraft}
 use Rattle.passes_codec.specs.PassTables.{IsValidPass, PassTable, with_draft, with_pass}

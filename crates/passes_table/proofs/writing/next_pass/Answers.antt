@@ -6,7 +6,7 @@ use Rattle.base.specs.declared.file.FileName.{FileName}
 use Rattle.base_collections.specs.Numbers.{IsIndexOf}
 use Rattle.testbench_runs.specs.Runs.{FitsRun}
 use Rattle.store_table.specs.Located.{located_text, located_texts}
-use Rattle.passes_codec.specs.Forms.{ListRef, PassDraft, pass_in}
+use Rattle.passes_codec.specs.Forms.{ListRef, pass_in}
 use Rattle.passes_codec.specs.Forms.ListRef.{KnownList, NewList}
 use Rattle.passes_codec.specs.Ranges.{HasFilesAt, pass_in_ranges}
 use Rattle.passes_codec.proofs.Spelling.{pass_again}

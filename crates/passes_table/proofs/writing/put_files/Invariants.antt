@@ -1,4 +1,4 @@
-use Rattle.std.proofs.Common.{◌≡◌, ◌++◌, length, take, List, ℕ}
+use Rattle.std.proofs.Common.{◌≡◌, ◌++◌, length, take}
 use Rattle.std.specs.List.{flat_map}
 use Rattle.store_table.specs.Located.{located_texts}
 use Rattle.passes_codec.specs.Forms.{file_bytes}

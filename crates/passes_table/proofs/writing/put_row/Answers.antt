@@ -1,4 +1,4 @@
-use Rattle.std.proofs.Common.{◌≡◌, ◌≤◌, ℕ, List, ◌++◌, length, get_or, sym, ap, subst, ◌∙◌, arith}
+use Rattle.std.proofs.Common.{ℕ, List, ◌++◌, length, get_or, sym, ap, subst, ◌∙◌, arith}
 use Rattle.std.proofs.lemmas.Option.{get_or_from_slice_get}
 use Rattle.std.proofs.lemmas.Result.{on_ok_weaker}
 use Rattle.base.specs.declared.file.FileName.{FileName}
@@ -7,7 +7,7 @@ use Rattle.base_bytes.specs.TextRefs.{TextRef}
 use Rattle.store_codec.specs.Writing.{part_ref}
 use Rattle.store_table.specs.Located.{located_texts, no_name}
 use Rattle.passes_codec.specs.Forms.{file_bytes}
-use Rattle.passes_table.specs.Pending.{IsPending, all_texts}
+use Rattle.passes_table.specs.Pending.{IsPending}
 use Rattle.passes_table.proofs.RowBytes.{pending_row}
 use Rattle.passes_table.proofs.writing.put_row.Goals as goal
 

@@ -1,7 +1,7 @@
-use Rattle.std.proofs.Common.{◌≡◌, ℕ, List, length, sym, ap, subst, ◌∙◌, arith}
+use Rattle.std.proofs.Common.{◌≡◌, List, sym, ap, subst, ◌∙◌, arith}
 use Rattle.std.proofs.lemmas.List.{length-map}
 use Rattle.base.specs.declared.graph.BuiltFile.{BuiltFile}
-use Rattle.store_table.specs.Located.{located_text, located_texts}
+use Rattle.store_table.specs.Located.{located_text}
 use Rattle.passes_codec.specs.PassTables.{PassTable, drafted_pass, pass_table_of}
 use Rattle.passes_codec.specs.Ranges.{list_in_range, pass_in_ranges}
 use Rattle.passes_table.specs.Additions.{IsAddition}
