@@ -1,0 +1,4 @@
+-- The lemmas.
+pub mod PassMoments
+pub mod Commits
+pub mod Compacted
