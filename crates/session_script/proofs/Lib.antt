@@ -1,0 +1,3 @@
+-- The lemmas.
+pub mod FirstLines
+pub mod ScriptSteps

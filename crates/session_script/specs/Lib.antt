@@ -1,0 +1,4 @@
+-- The definitions.
+pub mod Commands
+pub mod Scripts
+pub mod Steps
