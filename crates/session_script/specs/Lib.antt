@@ -1,4 +1,5 @@
 -- The definitions.
 pub mod Commands
+pub mod Examples
 pub mod Scripts
 pub mod Steps
