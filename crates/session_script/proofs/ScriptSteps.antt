@@ -8,7 +8,7 @@ use Rattle.session_script.specs.declared.lines.NextLine.TheVariants.{Got, Ends}
 use Rattle.session_script.specs.declared.puts.Added.{Added}
 use Rattle.session_script.specs.declared.puts.Added.TheVariants.{More, TooMuch, Done}
 use Rattle.session_script.specs.declared.puts.PutStep.TheVariants.{Took}
-use Rattle.session_script.specs.Commands.{ends_put, text_line}
+use Rattle.session_script.specs.Commands.{is_put_end, text_line}
 use Rattle.session_script.specs.Scripts.{Script, OpenPut, Put, end_in, ends, lines_of, next_line, next_of, script_after, script_in, script_of_put, then_line, then_next, with_command}
 use Rattle.session_script.specs.Steps.{AddsLine, PassesLine}
 use Rattle.session_script.proofs.FirstLines.{lines_first}
@@ -39,16 +39,16 @@ put_line put taken new input left line e counted rest =
     ∙ sym (ap (λ bytes. then_line (Some put) line (rest_at new bytes)) rest)
 
 -- a taken line adds to the text of a put
-pub put_more : (path text : List ℕ) (taken new : ℕ) (input left line : List ℕ) → Got line ≡ next_line Unended taken input → new ≡ taken + 1 → left ≡ after_line input → ends_put line ≡ false → script_of_put path text taken input ≡ script_of_put path (text ++ text_line line) new left
+pub put_more : (path text : List ℕ) (taken new : ℕ) (input left line : List ℕ) → Got line ≡ next_line Unended taken input → new ≡ taken + 1 → left ≡ after_line input → is_put_end line ≡ false → script_of_put path text taken input ≡ script_of_put path (text ++ text_line line) new left
 put_more path text taken new input left line e counted rest more =
     put_line (record { path = path; text = text }) taken new input left line e counted rest
-    ∙ cond-false (ends_put line) (with_command (Put path text) (script_after new left)) (script_of_put path (text ++ text_line line) new left) more
+    ∙ cond-false (is_put_end line) (with_command (Put path text) (script_after new left)) (script_of_put path (text ++ text_line line) new left) more
 
 -- a taken line ends a put
-pub put_done : (path text : List ℕ) (taken new : ℕ) (input left line : List ℕ) → Got line ≡ next_line Unended taken input → new ≡ taken + 1 → left ≡ after_line input → ends_put line ≡ true → script_of_put path text taken input ≡ with_command (Put path text) (script_after new left)
+pub put_done : (path text : List ℕ) (taken new : ℕ) (input left line : List ℕ) → Got line ≡ next_line Unended taken input → new ≡ taken + 1 → left ≡ after_line input → is_put_end line ≡ true → script_of_put path text taken input ≡ with_command (Put path text) (script_after new left)
 put_done path text taken new input left line e counted rest done =
     put_line (record { path = path; text = text }) taken new input left line e counted rest
-    ∙ cond-true (ends_put line) (with_command (Put path text) (script_after new left)) (script_of_put path (text ++ text_line line) new left) done
+    ∙ cond-true (is_put_end line) (with_command (Put path text) (script_after new left)) (script_of_put path (text ++ text_line line) new left) done
 
 -- the script of a put continues after one line
 pub passes_line : (limit : ℕ) (path : List ℕ) (added : Added) (old new line : List ℕ) (taken now : ℕ) (input left : List ℕ) → Got line ≡ next_line Unended taken input → now ≡ taken + 1 → left ≡ after_line input → AddsLine limit line added old new → PassesLine limit path (Took added) old new (script_of_put path old taken input) now left

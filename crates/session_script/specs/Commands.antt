@@ -26,20 +26,20 @@ abbrev pub words_of : List ℕ → List (List ℕ)
 words_of bytes = filter is_word (slice_split is_space bytes)
 
 -- bytes begin with a word
-abbrev pub begins : List ℕ → List ℕ → Bool
-begins word bytes = starts_with (λ a b. a == b) bytes word
+abbrev pub has_prefix : List ℕ → List ℕ → Bool
+has_prefix word bytes = starts_with (λ a b. a == b) bytes word
 
 -- a line is `run`, or begins with `run` and a space
 abbrev pub is_run : List ℕ → Bool
-is_run line = bytes_eq line (codes "run") || begins (codes "run ") line
+is_run line = bytes_eq line (codes "run") || has_prefix (codes "run ") line
 
 -- The command of a line. Upper case, a space before the command, or a byte after `quit` make the line unknown.
 unfoldable pub command_of : List ℕ → CommandLine
 command_of line =
     if bytes_eq line (codes "quit") then QuitLine
     else if is_run line then RunLine (words_of (drop 3 line))
-    else if begins (codes "put ") line then PutLine (drop 4 line)
-    else if begins (codes "drop ") line then DropLine (drop 5 line)
+    else if has_prefix (codes "put ") line then PutLine (drop 4 line)
+    else if has_prefix (codes "drop ") line then DropLine (drop 5 line)
     else UnknownLine
 
 -- the command that the code's command line stands for
@@ -60,5 +60,5 @@ abbrev pub text_line : List ℕ → List ℕ
 text_line line = without_dot line ++ 10 ∷ []
 
 -- the line ends a put: it is a single dot
-abbrev pub ends_put : List ℕ → Bool
-ends_put line = bytes_eq line (46 ∷ [])
+abbrev pub is_put_end : List ℕ → Bool
+is_put_end line = bytes_eq line (46 ∷ [])

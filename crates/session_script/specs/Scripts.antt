@@ -9,7 +9,7 @@ use Rattle.session_script.specs.declared.lines.NextLine.{NextLine}
 use Rattle.session_script.specs.declared.lines.NextLine.TheVariants.{Got, Ends}
 use Rattle.session_script.specs.declared.puts.PutEnd.{PutEnd}
 use Rattle.session_script.specs.declared.puts.PutEnd.TheVariants as taken
-use Rattle.session_script.specs.Commands.{CommandLine, PutLine, DropLine, RunLine, QuitLine, UnknownLine, command_of, ends_put, text_line}
+use Rattle.session_script.specs.Commands.{CommandLine, PutLine, DropLine, RunLine, QuitLine, UnknownLine, command_of, is_put_end, text_line}
 
 -- A command with its path, text or words. The text of a put may have any length, and its path any bytes.
 pub data Command : Type 0 where
@@ -78,7 +78,7 @@ then_command UnknownLine rest = with_command Unknown (rest None)
 abbrev pub then_line : Option OpenPut → List ℕ → (Option OpenPut → Script) → Script
 then_line None line rest = then_command (command_of line) rest
 then_line (Some put) line rest =
-    if ends_put line then with_command (Put put.path put.text) (rest None)
+    if is_put_end line then with_command (Put put.path put.text) (rest None)
     else rest (Some (record { path = put.path; text = put.text ++ text_line line }))
 
 -- the script that begins with the next line, or ends where the input ends

@@ -5,15 +5,15 @@ use Rattle.session_script.specs.declared.puts.Added.{Added}
 use Rattle.session_script.specs.declared.puts.Added.TheVariants.{More, TooMuch, Done}
 use Rattle.session_script.specs.declared.puts.PutStep.{PutStep}
 use Rattle.session_script.specs.declared.puts.PutStep.TheVariants.{Took, Ends}
-use Rattle.session_script.specs.Commands.{ends_put, text_line}
+use Rattle.session_script.specs.Commands.{is_put_end, text_line}
 use Rattle.session_script.specs.Scripts.{Script, Put, ends, with_command, script_after, script_of_put}
 use Rattle.session_script.specs.declared.limits.TheConstants.{LINE_COUNT_LIMIT}
 
 -- a line of a put is added to its text, would make the text exceed the limit, or ends the put
 abbrev pub AddsLine : ℕ → List ℕ → Added → (old new : List ℕ) → Type 0
-AddsLine limit line More old new = (ends_put line ≡ false) × (new ≡ old ++ text_line line) × (length new ≤ limit)
-AddsLine limit line TooMuch old new = (ends_put line ≡ false) × (limit < length (old ++ text_line line))
-AddsLine limit line Done old new = (ends_put line ≡ true) × (new ≡ old)
+AddsLine limit line More old new = (is_put_end line ≡ false) × (new ≡ old ++ text_line line) × (length new ≤ limit)
+AddsLine limit line TooMuch old new = (is_put_end line ≡ false) × (limit < length (old ++ text_line line))
+AddsLine limit line Done old new = (is_put_end line ≡ true) × (new ≡ old)
 
 -- the text of a put exceeds the limit, and the script continues inside the put
 pub record GoesOver (limit : ℕ) (path : List ℕ) (script : Script) (taken : ℕ) (left : List ℕ) : Type 0 where

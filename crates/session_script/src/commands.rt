@@ -1,7 +1,7 @@
 //! Command lines.
 ghost use Rattle.std.specs.Prelude.{◌≡◌, ◌≤◌, ◌++◌, [], ◌∷◌, length, filter, IsTrue, IfOk, OnOk};
 ghost use Rattle.std.specs.Str.{bytes_eq};
-ghost use Rattle.session_script.specs.Commands.{begins, command_of, is_run, is_word, line_command, words_of};
+ghost use Rattle.session_script.specs.Commands.{command_of, has_prefix, is_run, is_word, line_command, words_of};
 
 use base::{NoMemory, Text, TextList};
 use std::alloc::Global;
@@ -24,8 +24,8 @@ fn is_same(bytes: &[u8], other: &[u8]) -> bool
 }
 
 /// Whether bytes begin with a word.
-fn begins(word: &[u8], bytes: &[u8]) -> bool
-    ensures is { result ≡ begins word.now bytes.now }
+fn has_prefix(word: &[u8], bytes: &[u8]) -> bool
+    ensures is { result ≡ has_prefix word.now bytes.now }
     ensures long { IsTrue result → length word.now ≤ length bytes.now }
 {
     bytes.starts_with(word)
@@ -36,7 +36,7 @@ fn is_run(line: &[u8]) -> bool
     ensures is { result ≡ is_run line.now }
     ensures long { IsTrue result → 3 ≤ length line.now }
 {
-    is_same(line, b"run") || begins(b"run ", line)
+    is_same(line, b"run") || has_prefix(b"run ", line)
 }
 
 /// The command of a line.
@@ -48,9 +48,9 @@ pub fn command_of(line: &[u8]) -> LineCommand<'_>
         LineCommand::Quit
     } else if is_run(line) {
         LineCommand::Run(&line[3..])
-    } else if begins(b"put ", line) {
+    } else if has_prefix(b"put ", line) {
         LineCommand::Put(&line[4..])
-    } else if begins(b"drop ", line) {
+    } else if has_prefix(b"drop ", line) {
         LineCommand::Drop(&line[5..])
     } else {
         LineCommand::Unknown

@@ -1,7 +1,7 @@
 //! Reads the text of a put line by line.
 ghost use Rattle.std.specs.Prelude.{◌≡◌, ◌++◌, ℕ, List, [], ◌∷◌, IfOk, OnOk};
 ghost use Rattle.outside.specs.Counts.{SourceCounts};
-ghost use Rattle.session_script.specs.Commands.{ends_put, without_dot};
+ghost use Rattle.session_script.specs.Commands.{is_put_end, without_dot};
 ghost use Rattle.session_script.specs.Scripts.{FitsPut, TakesPut, script_after, script_of_put};
 ghost use Rattle.session_script.specs.Steps.{AddsLine, PassesLine, SkipsPut, CountsPut, FitsAdded};
 
@@ -34,8 +34,8 @@ enum PutStep {
 }
 
 /// Whether a line ends a put.
-fn ends_put(line: &[u8]) -> bool
-    ensures { result ≡ ends_put line.now }
+fn is_put_end(line: &[u8]) -> bool
+    ensures { result ≡ is_put_end line.now }
 {
     line == b".".as_slice()
 }
@@ -64,7 +64,7 @@ fn add_line(text: &mut Vec<u8>, line: &[u8], limit: usize) -> Result<Added, NoMe
     ensures { IfOk result (λ added.
         AddsLine limit line.now added text.old.items text.new.items) }
 {
-    if ends_put(line) {
+    if is_put_end(line) {
         return Ok(Added::Done);
     }
     let bytes = without_dot(line);
@@ -116,7 +116,7 @@ fn skip_put<S: Source>(
         match lines.next(alloc, input, Ending::Unended)? {
             NextLine::Ends(ending) => return Ok(Some(ending)),
             NextLine::Got(line) => {
-                if ends_put(line.bytes()) {
+                if is_put_end(line.bytes()) {
                     return Ok(None);
                 }
             }

@@ -1,5 +1,5 @@
 use Rattle.std.proofs.Common.{sym, ap, ◌∙◌, ◌++◌, subst, append_assoc}
-use Rattle.session_script.specs.Commands.{ends_put, text_line}
+use Rattle.session_script.specs.Commands.{is_put_end, text_line}
 use Rattle.session_script.specs.Scripts.{Counts, script_of_put}
 use Rattle.session_script.proofs.ScriptSteps.{put_done, put_ends, put_more}
 use Rattle.session_script.proofs.puts.skip_put.Goals as goal
@@ -10,13 +10,13 @@ returns-in-Ends-clause-script g c = λ tells path text.
     kept.same
     ∙ put_ends (record { path = path; text = text ++ kept.more }) c.loop-ending.lines (g.S.Source.left c.loop-ending.input) c.in-Ends.ending (sym c.in-Ends.is ∙ c.in_ok-ending.ensures.next tells)
 
-pub returns-then-ends_put-clause-script : goal.returns-then-ends_put-clause-script
-returns-then-ends_put-clause-script g c = λ tells path text.
+pub returns-then-is_put_end-clause-script : goal.returns-then-is_put_end-clause-script
+returns-then-is_put_end-clause-script g c = λ tells path text.
     let kept = c.loop-ending.invariant.0 tells path text in
     let counts = subst (λ next. Counts next c.loop-ending.lines c.next.new.self) c.in-Got.is c.in_ok-ending.ensures.count in
     record {
       more = kept.more;
-      begins = kept.same ∙ put_done path (text ++ kept.more) c.loop-ending.lines c.next.new.self (g.S.Source.left c.loop-ending.input) (g.S.Source.left c.next.new.input) c.in-Got.line (sym c.in-Got.is ∙ c.in_ok-ending.ensures.next tells) counts.0 (c.in_ok-ending.ensures.left tells) (ap ends_put (sym c.bytes.ensures) ∙ sym c.ends_put.ensures ∙ c.if-ends_put.true);
+      begins = kept.same ∙ put_done path (text ++ kept.more) c.loop-ending.lines c.next.new.self (g.S.Source.left c.loop-ending.input) (g.S.Source.left c.next.new.input) c.in-Got.line (sym c.in-Got.is ∙ c.in_ok-ending.ensures.next tells) counts.0 (c.in_ok-ending.ensures.left tells) (ap is_put_end (sym c.bytes.ensures) ∙ sym c.is_put_end.ensures ∙ c.if-is_put_end.true);
     }
 
 pub loop-ending-preserved : goal.loop-ending-preserved
@@ -28,7 +28,7 @@ loop-ending-preserved g c =
             more = kept.more ++ text_line c.in-Got.line;
             same =
                 kept.same
-                ∙ put_more path (text ++ kept.more) c.loop-ending.lines c.next.new.self (g.S.Source.left c.loop-ending.input) (g.S.Source.left c.next.new.input) c.in-Got.line (sym c.in-Got.is ∙ c.in_ok-ending.ensures.next tells) counts.0 (c.in_ok-ending.ensures.left tells) (ap ends_put (sym c.bytes.ensures) ∙ sym c.ends_put.ensures ∙ c.if-ends_put.false)
+                ∙ put_more path (text ++ kept.more) c.loop-ending.lines c.next.new.self (g.S.Source.left c.loop-ending.input) (g.S.Source.left c.next.new.input) c.in-Got.line (sym c.in-Got.is ∙ c.in_ok-ending.ensures.next tells) counts.0 (c.in_ok-ending.ensures.left tells) (ap is_put_end (sym c.bytes.ensures) ∙ sym c.is_put_end.ensures ∙ c.if-is_put_end.false)
                 ∙ ap (λ bytes. script_of_put path bytes c.next.new.self (g.S.Source.left c.next.new.input)) (append_assoc text kept.more (text_line c.in-Got.line));
           },
       c.in_ok-ending.ensures.cause ∙ c.loop-ending.invariant.1,
