@@ -1,5 +1,5 @@
 //! Reads the text of a put line by line.
-ghost use Rattle.std.specs.Prelude.{◌≡◌, ◌++◌, ℕ, List, [], ◌∷◌, IfOk, OnOk};
+ghost use Rattle.std.specs.Prelude.{◌≡◌, ◌≤◌, ◌++◌, ℕ, List, [], ◌∷◌, IfOk, OnOk};
 ghost use Rattle.outside.specs.Counts.{SourceCounts};
 ghost use Rattle.session_script.specs.Commands.{is_put_end, without_dot};
 ghost use Rattle.session_script.specs.Scripts.{FitsPut, TakesPut, script_after, script_of_put};
@@ -110,6 +110,7 @@ fn skip_put<S: Source>(
         SkipsPut path text end
         (script_of_put path text lines.old (S.left input.old))
         (script_after lines.new (S.left input.new))) }
+    ensures count { OnOk result (lines.old ≤ lines.new) }
     ensures cause { SourceCounts result (S.failed_takes input.old) (S.failed_takes input.new) }
 {
     loop {
@@ -137,6 +138,7 @@ pub fn take_put<S: Source>(
         TakesPut limit path end
         (script_of_put path [] lines.old (S.left input.old))
         (script_after lines.new (S.left input.new))) }
+    ensures count { OnOk result (lines.old ≤ lines.new) }
     ensures cause { SourceCounts result (S.failed_takes input.old) (S.failed_takes input.new) }
 {
     let mut text = Vec::new(alloc);

@@ -1,4 +1,4 @@
-use Rattle.std.proofs.Common.{sym, ap, ◌∙◌, ◌++◌, subst, append_assoc}
+use Rattle.std.proofs.Common.{arith, sym, ap, ◌∙◌, ◌++◌, subst, append_assoc}
 use Rattle.session_script.specs.Commands.{is_put_end, text_line}
 use Rattle.session_script.specs.Scripts.{Counts, script_of_put}
 use Rattle.session_script.proofs.ScriptSteps.{put_done, put_ends, put_more}
@@ -32,4 +32,5 @@ loop-ending-preserved g c =
                 ∙ ap (λ bytes. script_of_put path bytes c.next.new.self (g.S.Source.left c.next.new.input)) (append_assoc text kept.more (text_line c.in-Got.line));
           },
       c.in_ok-ending.ensures.cause ∙ c.loop-ending.invariant.1,
+      omega (arith, counts.0, c.loop-ending.invariant.2),
     )
