@@ -10,7 +10,7 @@ command_examples = record { nothing = refl; quits = refl; after_quit = refl; unk
 
 pub put_examples : PutExamples
 unfolding command_of lines_of script_in
-put_examples = record { text = refl; empty = refl; dots = refl; returns = refl; inside = refl; unended = refl }
+put_examples = record { text = refl; empty = refl; dots = refl; returns = refl; inside = refl; unended = refl; listed = refl; outside = refl }
 
 pub limit_examples : LimitExamples
 unfolding command_of lines_of script_in

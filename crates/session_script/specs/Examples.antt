@@ -23,7 +23,7 @@ pub record CommandExamples : Type 0 where
   -- a drop with a path, a drop with an empty path, and a last line without a line feed
   pub drops : script_of (codes "drop a.vhd\ndrop \ndrop b") ≡ script (Drop (codes "a.vhd") ∷ Drop [] ∷ Drop (codes "b") ∷ []) Quits
 
--- Examples of puts.
+-- Examples of puts, alone and among other commands.
 pub record PutExamples : Type 0 where
   -- a text of two lines between two commands
   pub text : script_of (codes "put b.vhd\nx\ny\n.\nrun\n") ≡ script (Put (codes "b.vhd") (codes "x\ny\n") ∷ Run [] ∷ []) Quits
@@ -37,6 +37,11 @@ pub record PutExamples : Type 0 where
   pub inside : script_of (codes "put a\nquit\n.\nquit\n") ≡ script (Put (codes "a") (codes "quit\n") ∷ []) Quits
   -- the input ends inside the second put
   pub unended : script_of (codes "put a\n.\nput b\nx") ≡ script (Put (codes "a") [] ∷ []) Unended
+  -- a project listed before and after a put
+  pub listed : script_of (codes "run -f\nput b.vhd\npackage b is\nend package b;\n.\nrun -f\nquit\n")
+      ≡ script (Run (codes "-f" ∷ []) ∷ Put (codes "b.vhd") (codes "package b is\nend package b;\n") ∷ Run (codes "-f" ∷ []) ∷ []) Quits
+  -- any bytes may be a path
+  pub outside : script_of (codes "put ../x\n.\ndrop a.vhd\nfrob\n") ≡ script (Put (codes "../x") [] ∷ Drop (codes "a.vhd") ∷ Unknown ∷ []) Quits
 
 -- Examples at the limit of lines.
 pub record LimitExamples : Type 0 where

@@ -115,8 +115,8 @@ pub record PutsTooMuch (limit : ℕ) (path : List ℕ) (script rest : Script) : 
   pub long : limit < length text
   pub begins : script ≡ with_command (Put path text) rest
 
--- The answer for a put agrees with the script: the script continues with the put and this text, or with a put whose text
--- exceeds the limit, or the input ends inside the put.
+-- The answer for a put is what the script has next. A text is the put's text, `TooLong` is a put whose text exceeds the
+-- limit, and an ending means that the script ends inside the put.
 abbrev pub TakesPut : ℕ → (path : List ℕ) → PutEnd → (script rest : Script) → Type 0
 TakesPut limit path (taken.Got text) script rest = (length text ≤ limit) × (script ≡ with_command (Put path text) rest)
 TakesPut limit path taken.TooLong script rest = PutsTooMuch limit path script rest

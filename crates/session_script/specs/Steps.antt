@@ -45,7 +45,7 @@ pub record PutsMore (path text : List ℕ) (script rest : Script) : Type 0 where
   pub more : List ℕ
   pub begins : script ≡ with_command (Put path (text ++ more)) rest
 
--- The skipped lines agree with the script: it continues with the whole put, or the input ends inside the put.
+-- The skipped lines are what the script has next: the rest of the put, or the end of the input inside the put.
 abbrev pub SkipsPut : (path text : List ℕ) → Option Ending → (script rest : Script) → Type 0
 SkipsPut path text None script rest = PutsMore path text script rest
 SkipsPut path text (Some ending) script rest = script ≡ ends ending
