@@ -3,6 +3,7 @@
 #![tactic(auto)]
 
 mod graphs;
+mod known_runs;
 mod scopes;
 
 ghost use Rattle.std.specs.Prelude.{◌≡◌, ◌≤◌, ◌%◌, ◌^◌, IfOk, false, length, true};
@@ -13,6 +14,7 @@ ghost use Rattle.bench_library.specs.Projects.{HasScans, HasSight};
 ghost use Rattle.bench_library.specs.Counts.{HasTokens, HasUnits, HasLexicalFault, IsFaulty, IsReferred, ref_count};
 
 use crate::graphs::{Graphed, sources_of, told_of};
+use crate::known_runs::{Known, disk_of, known_of};
 use crate::scopes::{first_sees, scan_files};
 use base::{NoMemory, OrMemory, RoleList, Scan, TEXT_LIMIT, Tokens};
 use std::alloc::Global;
@@ -295,4 +297,35 @@ pub extern "C" fn bench_graph(
             deps: 0,
         },
     };
+}
+
+/// Makes a disk in memory whose side A has these bytes, which is what `bench_passes` does first, and no more. C declares it as
+/// `void bench_side(const uint8_t *side, size_t length, struct known *out)`.
+#[unsafe(no_mangle)]
+pub extern "C" fn bench_side(alloc: Global, side: &[u8], out: &mut Known) {
+    *out = Known {
+        whole: disk_of(alloc, side).is_ok(),
+        runs: 0,
+    };
+}
+
+/// Opens the store of passes of such a disk, and starts a list of files. Then it asks, a number of times, which runs of cases are known
+/// with the simulator `ghdl`. The files are of library `l`: for each a path of 8 bytes and an artefact of 8,192. The names of cases have
+/// 8 bytes each. There is no answer if memory ran out. C declares it as
+/// `void bench_passes(const uint8_t *side, size_t length, const uint8_t *files, size_t files_length, const uint8_t *names,
+/// size_t names_length, uint64_t times, struct known *out)`.
+#[unsafe(no_mangle)]
+pub extern "C" fn bench_passes(
+    alloc: Global,
+    side: &[u8],
+    files: &[u8],
+    names: &[u8],
+    times: u64,
+    out: &mut Known,
+) {
+    let (whole, runs) = match known_of(alloc, side, files, names, times) {
+        Ok(runs) => (true, runs),
+        Err(_fault) => (false, 0),
+    };
+    *out = Known { whole, runs };
 }

@@ -1,2 +1,3 @@
 -- The lemmas.
 mod Fitting
+mod PassSteps

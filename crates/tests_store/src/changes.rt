@@ -25,7 +25,8 @@ pub(super) fn disk_of(alloc: Global, failing: &[u64], bytes: &[u8]) -> Result<Me
 /// The length of a dead payload that causes the compaction of its side: more than 1,048,576 bytes.
 const DEAD_COUNT: u32 = 1_048_600;
 
-/// A side with one more payload before all others. It stands for no record, since no form of a payload begins with its first byte.
+/// A side with one more payload before all others. It stands for no record, since no form of a payload begins with its first byte, and
+/// for no pass, since the length of its first text is more than its bytes.
 fn with_dead_bytes(alloc: Global, side: &[u8]) -> Result<Vec<u8>, NoMemory> {
     let head = side.len().min(18);
     let mut bytes = Vec::from_slice(alloc, &side[..head])?;

@@ -1,6 +1,7 @@
 //! Tests of the objects in memory and of the journal over them.
 //! Tests of the store of requests over a disk in memory, and of the bytes of payloads of both forms.
 //! Tests of the parts of a store of requests.
+//! Tests of the store of passes over a disk in memory.
 #![tactic(auto)]
 
 #[cfg(test)]
@@ -29,6 +30,14 @@ mod node_payloads;
 mod node_tables;
 #[cfg(test)]
 mod objects;
+#[cfg(test)]
+mod pass_changes;
+#[cfg(test)]
+mod pass_projects;
+#[cfg(test)]
+mod pass_sides;
+#[cfg(test)]
+mod pass_stops;
 #[cfg(test)]
 mod payloads;
 #[cfg(test)]

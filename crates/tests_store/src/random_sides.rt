@@ -70,7 +70,7 @@ fn digit(byte: u8) -> u8 {
 }
 
 /// The bytes of two digits each.
-fn bytes_of(alloc: Global, digits: &[u8]) -> Result<Vec<u8>, NoMemory> {
+pub fn bytes_of(alloc: Global, digits: &[u8]) -> Result<Vec<u8>, NoMemory> {
     let mut bytes = Vec::new(alloc);
     let mut high = 0;
     let mut is_low = false;
