@@ -103,7 +103,7 @@ fn is_right(alloc: Global, row: &str) -> Result<bool, StoreFault> {
 }
 
 #[test]
-fn a_list_text_number_or_flag_out_of_place_adds_nothing(rt: HostRuntime) -> Result<(), Fail> {
+fn a_wrong_list_text_number_or_flag_adds_nothing(rt: HostRuntime) -> Result<(), Fail> {
     for row in ROWS.lines() {
         assert!(rt; is_right(rt.alloc(), row)?, "{row}");
     }

@@ -24,8 +24,8 @@ returns-in-Some-clause-size c =
     let once = subst (λ (t : PassTable). AllPairs (λ (a b : List BuiltFile). a ≢ b) t.lists) (sym c.requires.table.is) (once_in_all segments).lists in
     let low : c.args.list < length there.lists = omega (arith, c.requires.list, length-map c.args.table.now.lists.keys (listed_files c.args.table.now.names.keys (located_texts segments c.args.table.now.texts))) in
     let are : AreNumbers (length there.lists) old.lists = record { room = c.requires.numbers.lists.room; below = c.requires.numbers.lists.below; once = c.requires.numbers.lists.once } in
-    let place = kept_list there.lists once old.lists c.args.list (Some c.in-Some._number) are low (subst (IsIndexOf old.lists.numbers c.args.list) c.in-Some.is c.index_of.ensures) in
-    sym (known_list_size c.in-Some._number) ∙ ap (λ (l : ListRef). length (list_ref_bytes l)) (ref_as there old old built (Some c.in-Some._number) place)
+    let found = kept_list there.lists once old.lists c.args.list (Some c.in-Some._number) are low (subst (IsIndexOf old.lists.numbers c.args.list) c.in-Some.is c.index_of.ensures) in
+    sym (known_list_size c.in-Some._number) ∙ ap (λ (l : ListRef). length (list_ref_bytes l)) (ref_as there old old built (Some c.in-Some._number) found)
 
 pub returns-in-Some-clause-after : goal.returns-in-Some-clause-after
 returns-in-Some-clause-after c =
@@ -36,8 +36,8 @@ returns-in-Some-clause-after c =
     let once = subst (λ (t : PassTable). AllPairs (λ (a b : List BuiltFile). a ≢ b) t.lists) (sym c.requires.table.is) (once_in_all segments).lists in
     let low : c.args.list < length there.lists = omega (arith, c.requires.list, length-map c.args.table.now.lists.keys (listed_files c.args.table.now.names.keys (located_texts segments c.args.table.now.texts))) in
     let are : AreNumbers (length there.lists) old.lists = record { room = c.requires.numbers.lists.room; below = c.requires.numbers.lists.below; once = c.requires.numbers.lists.once } in
-    let place = kept_list there.lists once old.lists c.args.list (Some c.in-Some._number) are low (subst (IsIndexOf old.lists.numbers c.args.list) c.in-Some.is c.index_of.ensures) in
-    after_known there old old built c.in-Some._number place refl refl
+    let found = kept_list there.lists once old.lists c.args.list (Some c.in-Some._number) are low (subst (IsIndexOf old.lists.numbers c.args.list) c.in-Some.is c.index_of.ensures) in
+    after_known there old old built c.in-Some._number found refl refl
 
 pub returns-clause-numbers : goal.returns-clause-numbers
 returns-clause-numbers c =
@@ -60,8 +60,8 @@ returns-clause-size c =
     let low : c.args.list < length there.lists = omega (arith, c.requires.list, length-map c.args.table.now.lists.keys (listed_files c.args.table.now.names.keys (located_texts segments c.args.table.now.texts))) in
     let are : AreNumbers (length there.lists) old.lists = record { room = c.requires.numbers.lists.room; below = c.requires.numbers.lists.below; once = c.requires.numbers.lists.once } in
     let absent : ¬ Contains old.lists.numbers c.args.list = subst (IsIndexOf old.lists.numbers c.args.list) c.in_default.is c.index_of.ensures in
-    let place = kept_list there.lists once old.lists c.args.list None are low absent in
-    c.in_ok-size.ensures.size ∙ ap (λ (l : ListRef). length (list_ref_bytes l)) (ref_as there old old built None place)
+    let found = kept_list there.lists once old.lists c.args.list None are low absent in
+    c.in_ok-size.ensures.size ∙ ap (λ (l : ListRef). length (list_ref_bytes l)) (ref_as there old old built None found)
 
 pub returns-clause-after : goal.returns-clause-after
 returns-clause-after c =
@@ -73,6 +73,6 @@ returns-clause-after c =
     let low : c.args.list < length there.lists = omega (arith, c.requires.list, length-map c.args.table.now.lists.keys (listed_files c.args.table.now.names.keys (located_texts segments c.args.table.now.texts))) in
     let are : AreNumbers (length there.lists) old.lists = record { room = c.requires.numbers.lists.room; below = c.requires.numbers.lists.below; once = c.requires.numbers.lists.once } in
     let absent : ¬ Contains old.lists.numbers c.args.list = subst (IsIndexOf old.lists.numbers c.args.list) c.in_default.is c.index_of.ensures in
-    let place = kept_list there.lists once old.lists c.args.list None are low absent in
+    let found = kept_list there.lists once old.lists c.args.list None are low absent in
     let kept : KeptNumbers = record { lists = c.add.new.self; texts = c.kept_list_size.new.texts } in
-    after_new there old kept built c.args.list place refl (numbers_new c.in_ok-add.field-0 old.lists c.add.new.self c.args.list absent c.in_ok-add.ensures.ok) c.in_ok-size.ensures.kept
+    after_new there old kept built c.args.list found refl (numbers_new c.in_ok-add.field-0 old.lists c.add.new.self c.args.list absent c.in_ok-add.ensures.ok) c.in_ok-size.ensures.kept
