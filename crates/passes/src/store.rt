@@ -153,7 +153,7 @@ impl PassStore {
     }
 
     /// The output of the last pass of the same tests, borrowed, if that pass is of this run and these words over the list of built
-    /// files; `None` otherwise. It takes no memory, and a time that goes by the texts of the run alone.
+    /// files; `None` otherwise. It takes no memory, and a time that grows with the texts of the run and the number of files.
     pub fn recall(&self, run: &TestRun, simulator: &TextList) -> Option<&[u8]>
         ensures output { option_map (λ bytes. bytes.now) result
             ≡ recalled (passes_held self.now) simulator.now self.now.held.built run.now }
