@@ -14,7 +14,7 @@ pub enum RunFault {
     StartFailed,
     /// The exit of a child is lost.
     ChildLost,
-    /// The store is broken from now on. Runs of tests never answer it.
+    /// A call of the disk failed: that of the store of a build, which is broken from now on, or that of the passes of tests.
     DiskFailed,
 }
 

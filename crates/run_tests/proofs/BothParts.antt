@@ -9,16 +9,15 @@ use Rattle.std.proofs.lemmas.List.Elements.{All-nil, All-head, All-tail, All-con
 use Rattle.std.proofs.lemmas.Option.{none-some}
 use Rattle.base.specs.declared.graph.BuiltFile.{BuiltFile}
 use Rattle.base.specs.declared.child.Request.{Request}
-use Rattle.base.specs.declared.child.Exit.{Exit}
 use Rattle.base.specs.declared.child.Event.{Event}
 use Rattle.base.specs.declared.child.Event.TheVariants.{Started, Ended, Gone}
 use Rattle.outside.specs.Children.{started_with}
-use Rattle.run_spec.specs.Moves.{SchedulerState, RunningChild, empty_schedule, without_child, after_move, LawfulMoves}
+use Rattle.run_spec.specs.Moves.{SchedulerState, RunningChild, after_move, LawfulMoves}
 use Rattle.run_spec.specs.ChildJournal.{Work, Run, BuildProgress, empty_progress, workload_of, schedule_of, after, moves_after, EachAfter, HasFreshTicket, Lawful}
 use Rattle.run_spec.specs.JournalParts.{is_test, is_test_event, compile_part, test_part}
 use Rattle.run_spec.proofs.Journal.{schedule_after}
 use Rattle.run_spec.proofs.Parts.{build_parts}
-use Rattle.run_spec.proofs.Steps.{AreStarted, started_all, ended_all, gone_all, run_of_running, run_found, All-others, still_all, started_is}
+use Rattle.run_spec.proofs.Steps.{AreStarted, started_all, ended_all, gone_all, run_of_running, run_found, All-others, started_is}
 use Rattle.run_tests.proofs.Answering.{still_more, all_left}
 use Rattle.testbench_runs.specs.declared.runs.TestRun.{TestRun}
 use Rattle.testbench_runs.specs.BenchJobs.{bench_request}

@@ -65,7 +65,8 @@ module _ (setting : TestSetting) (events : List Event) where
   abbrev progress : TestProgress
   progress = progress_of_tests setting events
 
-  exits_then : (event : Event) → (progress_of_tests setting (events ++ event ∷ [])).ends ≡ progress.ends ++ new_exits progress event
+  -- the exits after one more event
+  pub exits_then : (event : Event) → (progress_of_tests setting (events ++ event ∷ [])).ends ≡ progress.ends ++ new_exits progress event
   unfolding after_test
   exits_then event = ap (λ (b : TestProgress). b.ends) (progress_more setting empty_tests events event)
 

@@ -1,6 +1,8 @@
 -- The lemmas.
 mod Borrowed
 mod Found
+mod Passes
+mod RecordCounts
 mod TestsThen
 pub mod FreshTickets
 pub mod Answering

@@ -18,7 +18,6 @@ use Rattle.run_spec.specs.declared.statuses.FileStatus.{FileStatus}
 use Rattle.run_spec.specs.Moves.{LawfulMoves}
 use Rattle.run_spec.specs.ChildJournal.{Work, EachAfter, HasFreshTicket, since}
 use Rattle.run_spec.specs.JournalParts.{compile_part, test_part}
-use Rattle.run_spec.specs.Statuses.{statuses_of}
 use Rattle.run_spec.proofs.Journal.{since-added}
 use Rattle.run_spec.proofs.Parts.{all_compiled}
 use Rattle.run_spec.specs.Histories.{Order, work_over}
@@ -28,7 +27,7 @@ use Rattle.run_build.specs.Ran.{built_by, is_made}
 use Rattle.run_build.proofs.BorrowedFiles.{item_at, made_at}
 use Rattle.run_build.specs.Building.{BuildsOver}
 use Rattle.testbench_runs.specs.declared.ends.TestEnd.{TestEnd}
-use Rattle.run_spec.specs.TestJournal.{TestPlan, TestSetting, LawfulTests, IsWholeTests, test_moves, AreTestsRequested}
+use Rattle.run_spec.specs.TestJournal.{TestPlan, TestSetting, LawfulTests, test_moves, AreTestsRequested}
 use Rattle.run_tests.specs.Requests as testing
 use Rattle.run_tests.specs.Requests.{borrowed_files}
 use Rattle.run_tests.specs.Results.{test_ends}
@@ -71,9 +70,9 @@ none_built tells answer setting statuses journal tested same none left = record 
 
 module _ (tells : Type 0) (answer : Request → Exit) (setting : TestSetting) (statuses : List FileStatus) (old new : List Event) (made : list_all is_made statuses ≡ true) where
   -- the runs of tests ended by themselves
-  pub all_tested : (end : TestEnd) → (ran : TestsRan tells answer setting old new true (λ events. end.runs ≡ test_ends setting events)) → (tested : Tested) → tested.statuses ≡ statuses → tested.tests ≡ Some end →
+  pub all_tested : (end : TestEnd) (Recorded : List Event → Type 0) → (ran : TestsRan tells answer setting old new true (λ events. end.runs ≡ test_ends setting events) Recorded) → (tested : Tested) → tested.statuses ≡ statuses → tested.tests ≡ Some end →
       RanBuilt tells answer setting statuses (Ok tested) old new
-  all_tested end ran tested same is = record {
+  all_tested end Recorded ran tested same is = record {
     events = ran.events;
     journal = ran.journal;
     made = λ some. made;
@@ -84,8 +83,8 @@ module _ (tells : Type 0) (answer : Request → Exit) (setting : TestSetting) (s
   }
 
   -- a fault ended them
-  pub tests_failed : (fault : RunFault) (Says : List Event → Type 0) → TestsRan tells answer setting old new false Says → RanBuilt tells answer setting statuses (Err fault) old new
-  tests_failed fault Says ran = record {
+  pub tests_failed : (fault : RunFault) (Says Recorded : List Event → Type 0) → TestsRan tells answer setting old new false Says Recorded → RanBuilt tells answer setting statuses (Err fault) old new
+  tests_failed fault Says Recorded ran = record {
     events = ran.events;
     journal = ran.journal;
     made = λ some. made;

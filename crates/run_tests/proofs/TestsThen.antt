@@ -126,6 +126,17 @@ module _ (setting : TestSetting) (events : List Event) (scheduler : TestSchedule
       found_all = never first_fault' faulty;
     }
 
+  -- a record is answered: there is a fault now, or the scheduler is in step as before
+  pub recorded_then : (scheduler' : TestScheduler) (faulty : Bool) → first_fault ≡ false → IsSchedulerOf scheduler' (test_workload setting) (halted_if faulty schedule) → AreUnderWay setting events scheduler' found faulty
+  recorded_then scheduler' faulty sound step = record {
+    moves = is.moves;
+    requests = is.requests;
+    greedy = λ none. is.greedy sound;
+    none_lost = λ none. is.none_lost sound;
+    in_step = step;
+    found_all = λ none. is.found_all sound;
+  }
+
   -- no fault is noted where a run is to be started
   pub nothing_first_fault : (at : ℕ) → start_now (test_workload setting) (halted_if first_fault schedule) ≡ Some at → first_fault ≡ false
   nothing_first_fault at start = (start_while (test_workload setting) first_fault schedule at start).0

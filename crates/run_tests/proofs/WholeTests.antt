@@ -15,7 +15,9 @@ use Rattle.testbench_runs.specs.Verdicts.{unstarted_run}
 use Rattle.run_spec.specs.TestJournal.{TestSetting, LawfulTests, test_workload, test_moves, after_tests, progress_of_tests, AreTestsRequested}
 use Rattle.run_scheduler.specs.declared.test_scheduler.TestScheduler.{TestScheduler}
 use Rattle.run_scheduler.specs.Rows.{IsSchedulerOf}
-use Rattle.run_tests.specs.UnderWay.{Goes}
+use Rattle.passes_spec.specs.Passes.{Pass}
+use Rattle.run_tests.specs.UnderWay.{Goes, GoesOn}
+use Rattle.run_tests.proofs.Passes.{first_recorded}
 use Rattle.run_tests.specs.Ran.{TestsRan}
 use Rattle.run_tests.proofs.Found.{found_at_first}
 use Rattle.run_tests.proofs.FreshTickets.{fresh_alone}
@@ -41,10 +43,19 @@ first_going tells answer setting journal scheduler found step unstarted = record
   answers = λ t. tt;
 }
 
+-- nothing has happened yet, and nothing is recorded
+pub first_going_on : (tells : Type 0) (answer : Request → Exit) (setting : TestSetting) (journal : List Event) (scheduler : TestScheduler) (found : List RunEnd) (records : Bool) (passes : List Pass) → IsSchedulerOf scheduler (test_workload setting) empty_schedule
+    → found ≡ map unstarted_run setting.plan.runs → GoesOn tells answer setting journal scheduler found false journal records passes passes
+unfolding first_going
+first_going_on tells answer setting journal scheduler found records passes step unstarted = record {
+  going = first_going tells answer setting journal scheduler found step unstarted;
+  recorded = λ r. first_recorded setting false passes;
+}
+
 -- nothing was done
-pub ran_nothing : (tells : Type 0) (answer : Request → Exit) (setting : TestSetting) (journal : List Event) (Says : List Event → Type 0) → TestsRan tells answer setting journal journal false Says
+pub ran_nothing : (tells : Type 0) (answer : Request → Exit) (setting : TestSetting) (journal : List Event) (Says Recorded : List Event → Type 0) → Recorded [] → TestsRan tells answer setting journal journal false Says Recorded
 unfolding LawfulMoves test_moves AreTestsRequested EachAfter
-ran_nothing tells answer setting journal Says = record {
+ran_nothing tells answer setting journal Says Recorded recorded = record {
   events = [];
   journal = λ t. sym (append-nil journal);
   moves = tt;
@@ -53,20 +64,21 @@ ran_nothing tells answer setting journal Says = record {
   finished = tt;
   none_lost = tt;
   says = tt;
+  recorded = recorded;
   fresh = λ t. tt;
   lawful = λ t. record { moves = tt; requests = tt; tickets = tt };
   answered = λ t. tt;
   whole = λ t. tt;
 }
 
-module _ (tells : Type 0) (answer : Request → Exit) (setting : TestSetting) (old new : List Event) (scheduler : TestScheduler) (found : List RunEnd) (first_fault : Bool) (going : Goes tells answer setting old scheduler found first_fault new) (Says : List Event → Type 0) where
+module _ (tells : Type 0) (answer : Request → Exit) (setting : TestSetting) (old new : List Event) (scheduler : TestScheduler) (found : List RunEnd) (first_fault : Bool) (going : Goes tells answer setting old scheduler found first_fault new) (Says Recorded : List Event → Type 0) (recorded : Recorded going.events) where
   lawful_now : tells → LawfulTests setting going.events
   lawful_now t = record { moves = going.under_way.moves; requests = going.under_way.requests; tickets = fresh_alone old going.events (going.fresh t) }
 
   answered_now : tells → Answered answer going.events
   answered_now t = answered_tests answer setting old going.events going.under_way.moves (going.fresh t) (going.answers t)
 
-  pub ran_fault : TestsRan tells answer setting old new false Says
+  pub ran_fault : TestsRan tells answer setting old new false Says Recorded
   ran_fault = record {
     events = going.events;
     journal = going.journal;
@@ -76,13 +88,14 @@ module _ (tells : Type 0) (answer : Request → Exit) (setting : TestSetting) (o
     finished = tt;
     none_lost = tt;
     says = tt;
+    recorded = recorded;
     fresh = going.fresh;
     lawful = lawful_now;
     answered = answered_now;
     whole = λ t. tt;
   }
 
-  pub ran_done : first_fault ≡ false → IsFinished (test_workload setting) (halted_if first_fault (progress_of_tests setting going.events).schedule) → Says going.events → TestsRan tells answer setting old new true Says
+  pub ran_done : first_fault ≡ false → IsFinished (test_workload setting) (halted_if first_fault (progress_of_tests setting going.events).schedule) → Says going.events → TestsRan tells answer setting old new true Says Recorded
   ran_done none finished says =
       let over : IsFinished (test_workload setting) (progress_of_tests setting going.events).schedule = finished_then setting going.events scheduler found first_fault going.under_way none finished in
       record {
@@ -94,6 +107,7 @@ module _ (tells : Type 0) (answer : Request → Exit) (setting : TestSetting) (o
         finished = over;
         none_lost = going.under_way.none_lost none;
         says = says;
+        recorded = recorded;
         fresh = going.fresh;
         lawful = lawful_now;
         answered = answered_now;

@@ -1,5 +1,5 @@
 -- Histories of a project's disk: runs of the program with their tests, edits of the sources, and stops inside runs, as plain data.
-use Rattle.std.specs.Prelude.{◌≡◌, ℕ, true, List, [], ◌∷◌, ◌++◌, Option, Some, None}
+use Rattle.std.specs.Prelude.{◌≡◌, true, List, [], ◌∷◌, ◌++◌, Option, Some, None}
 use Rattle.std.specs.List.{list_all}
 use Rattle.base.specs.declared.child.Event.{Event}
 use Rattle.base.specs.Graphs.{IsGraph}

@@ -1,6 +1,7 @@
 -- The definitions.
 pub mod Requests
 pub mod Results
+pub mod Recording
 pub mod UnderWay
 pub mod Ran
 pub mod Tested

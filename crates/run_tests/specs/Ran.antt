@@ -13,7 +13,7 @@ use Rattle.run_spec.specs.TestJournal.{TestSetting, test_workload, test_moves, e
 -- start is of the first run that wasn't started, has its request, and comes while a slot is free. Each end is the answer
 -- to its own child's request. If the runs ended by themselves, no end was waited for too early, no child is lost, and
 -- nothing is left to do.
-pub record TestsRan (tells : Type 0) (answer : Request → Exit) (setting : TestSetting) (old new : List Event) (ended : Bool) (Says : List Event → Type 0) : Type 0 where
+pub record TestsRan (tells : Type 0) (answer : Request → Exit) (setting : TestSetting) (old new : List Event) (ended : Bool) (Says Recorded : List Event → Type 0) : Type 0 where
   pub events : List Event
   pub journal : tells → new ≡ old ++ events
   pub moves : LawfulMoves (test_workload setting) empty_schedule (test_moves setting empty_tests events)
@@ -22,6 +22,7 @@ pub record TestsRan (tells : Type 0) (answer : Request → Exit) (setting : Test
   pub finished : OnTrue ended (IsFinished (test_workload setting) (progress_of_tests setting events).schedule)
   pub none_lost : OnTrue ended (list_any is_gone events ≡ false)
   pub says : OnTrue ended (Says events)
+  pub recorded : Recorded events
   -- where the journal is told, no ticket is one that was given before, in the old journal neither
   pub fresh : tells → EachAfter HasFreshTicket old events
   pub lawful : tells → LawfulTests setting events

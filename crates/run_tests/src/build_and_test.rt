@@ -16,7 +16,7 @@ ghost use Rattle.run_tests.specs.Requests.{borrowed_files};
 ghost use Rattle.run_tests.specs.UnderWay.{tests_with};
 ghost use Rattle.run_tests.specs.Tested.{RanBuilt, TestsOver};
 
-use crate::{announce_long_runs, run_tests};
+use crate::{NoRecorder, announce_long_runs, run_tests};
 use base::{CASE_LIMIT, Graph, SLOT_LIMIT, TextList};
 use outside::{Disk, OpenRecords, Procs, Records};
 use run_build::{BuildOptions, Kept, build_kept};
@@ -90,8 +90,17 @@ fn test_built<K: Records + Drop, P: Procs>(
             tests: None,
         });
     }
+    let mut recorder = NoRecorder;
     match run_tests(
-        alloc, graph, &store, runs, simulator, procs, slots, fail_fast,
+        alloc,
+        graph,
+        &store,
+        runs,
+        simulator,
+        procs,
+        slots,
+        fail_fast,
+        &mut recorder,
     ) {
         Ok(end) => Ok(Tested {
             statuses,

@@ -1,6 +1,6 @@
 //! Runs of tests: one event a turn, until nothing is left to do and no child runs.
 
-ghost use Rattle.std.specs.Prelude.{◌≡◌, ◌<◌, ◌≤◌, [], ℕ, All, length, map, IfOk, false};
+ghost use Rattle.std.specs.Prelude.{◌≡◌, ◌<◌, ◌≤◌, [], ℕ, All, length, map, IfOk, false, true, is_err};
 ghost use Rattle.std.specs.Result.{is_ok};
 ghost use Rattle.outside.specs.Records.{IsRecorded};
 ghost use Rattle.outside.specs.FaultCounts.{child_counts};
@@ -11,9 +11,11 @@ ghost use Rattle.run_scheduler.specs.Rows.{IsSchedulerWorkload, IsSchedulerOf, t
 ghost use Rattle.run_tests.specs.Requests.{AreBuilt, borrowed_files};
 ghost use Rattle.run_tests.specs.Results.{test_ends};
 ghost use Rattle.run_spec.specs.Faults.{CountsBy, fault_of};
-ghost use Rattle.run_tests.specs.UnderWay.{tests_with};
+ghost use Rattle.run_tests.specs.UnderWay.{IsPassOver, tests_with};
+ghost use Rattle.run_tests.specs.Recording.{AreRecorded};
 ghost use Rattle.run_tests.specs.Ran.{TestsRan};
 
+use crate::PassRecorder;
 use crate::ends::end_one;
 use crate::requests::built_of;
 use crate::results::unstarted_runs;
@@ -69,10 +71,12 @@ fn begin<K: Records>(
 /// store has of all files of the graph; their bytes are put together once for all runs. At most `limit` children run at once,
 /// from 1 to 64. There are at most 65,536 runs.
 ///
+/// Each run that passed is recorded as its child ends, before the next start.
+///
 /// With `fail_fast` nothing more is started after the first run with a case that has not passed. After a fault nothing more is
-/// started, and the children that still run are waited for. The first fault is returned, but out of memory takes the place of any
-/// other fault. No child runs in the end.
-pub fn run_tests<K: Records, P: Procs>(
+/// started and nothing more is recorded, and the children that still run are waited for. The first fault is returned, but out of
+/// memory takes the place of any other fault. `DiskFailed` is that of a record. No child runs in the end.
+pub fn run_tests<K: Records, P: Procs, R: PassRecorder>(
     alloc: Global,
     graph: &Graph,
     store: &K,
@@ -81,6 +85,7 @@ pub fn run_tests<K: Records, P: Procs>(
     procs: &mut P,
     limit: u32,
     fail_fast: bool,
+    recorder: &mut R,
 ) -> Result<TestEnd, RunFault>
     requires limit { (1 ≤ limit) × (limit ≤ SLOT_LIMIT) }
     requires idle { P.running procs.old ≡ [] }
@@ -88,15 +93,23 @@ pub fn run_tests<K: Records, P: Procs>(
     requires fits { All FitsRun runs.now }
     requires recorded { (position : ℕ) → position < length graph.now →
         IsRecorded (K.latest_of store.now) graph.now position }
+    requires usable { R.is_broken recorder.old ≡ false }
+    requires over { R.records ≡ true →
+        IsPassOver (R.pass_with recorder.old) simulator.now
+        (borrowed_files (K.latest_of store.now) graph.now) }
     ensures running { P.running procs.new ≡ [] }
     ensures same { P.answer procs.new ≡ P.answer procs.old }
     ensures ran { let setting = tests_with runs.now simulator.now
         (borrowed_files (K.latest_of store.now) graph.now) limit fail_fast in
         TestsRan P.tells (P.answer procs.old) setting (P.journal procs.old) (P.journal procs.new) (is_ok result)
-        (λ events. IfOk result (λ end. end.runs ≡ test_ends setting events)) }
-    ensures counts { (disks : ℕ) → CountsBy (fault_of result) false
-        (record { children = child_counts P.Procs procs.old; disks = disks })
-        (record { children = child_counts P.Procs procs.new; disks = disks }) }
+        (λ events. IfOk result (λ end. end.runs ≡ test_ends setting events))
+        (λ events. R.records ≡ true →
+        AreRecorded setting events (is_err result) (R.passes recorder.old) (R.passes recorder.new)) }
+    ensures over { R.pass_with recorder.new ≡ R.pass_with recorder.old }
+    ensures went { R.went recorder.old recorder.new }
+    ensures counts { CountsBy (fault_of result) false
+        (record { children = child_counts P.Procs procs.old; disks = R.failed_calls recorder.old })
+        (record { children = child_counts P.Procs procs.new; disks = R.failed_calls recorder.new }) }
 {
     let Ok(
         Begun {
@@ -131,6 +144,7 @@ pub fn run_tests<K: Records, P: Procs>(
                 &mut found,
                 &mut first_fault,
                 procs,
+                recorder,
             ),
             Step::Finished => break,
         }

@@ -13,10 +13,11 @@ ghost use Rattle.run_spec.specs.Steps.{halted_if};
 ghost use Rattle.testbench_runs.specs.declared.ends.RunEnd.{RunEnd};
 ghost use Rattle.testbench_runs.specs.Runs.{FitsRun};
 ghost use Rattle.testbench_runs.specs.BenchJobs.{bench_request};
+ghost use Rattle.passes_spec.specs.Passes.{Pass};
 ghost use Rattle.run_scheduler.specs.Rows.{IsSchedulerOf, next_of, tickets_of, run_count, to_come};
 ghost use Rattle.run_tests.specs.Requests.{AreBuilt, borrowed_files};
 ghost use Rattle.run_spec.specs.Faults.{CountsBy, CountsStart, with_fault};
-ghost use Rattle.run_tests.specs.UnderWay.{Goes, tests_with};
+ghost use Rattle.run_tests.specs.UnderWay.{GoesOn, tests_with};
 
 use crate::requests::request_of;
 use base::{Graph, Text, TextList};
@@ -27,13 +28,18 @@ use std::alloc::Global;
 use testbench_runs::{TestRun, TestRunList};
 
 /// Notes a fault, and nothing more is started.
-fn halt(scheduler: &mut TestScheduler, first_fault: &mut Option<RunFault>, fault: RunFault)
+pub(crate) fn halt(
+    scheduler: &mut TestScheduler,
+    first_fault: &mut Option<RunFault>,
+    fault: RunFault,
+)
     ensures first_fault { first_fault.new ≡ Some (with_fault first_fault.old fault) }
     ensures in_step { (workload : Workload) (schedule : SchedulerState) (halts : Bool) →
         IsSchedulerOf scheduler.old workload (halted_if halts schedule) →
         IsSchedulerOf scheduler.new workload (halted_if (is_some first_fault.new) schedule) }
     ensures runs { run_count scheduler.new ≡ run_count scheduler.old }
     ensures tickets { tickets_of scheduler.new ≡ tickets_of scheduler.old }
+    ensures nearer { to_come scheduler.new ≤ to_come scheduler.old }
     ensures ends { (at : ℕ) → next_of scheduler.old ≡ Start at → to_come scheduler.new < to_come scheduler.old }
 {
     note(first_fault, fault);
@@ -95,12 +101,16 @@ pub(crate) fn start_one<K: Records, P: Procs>(
     ensures same { P.answer procs.new ≡ P.answer procs.old }
     ensures runs { run_count scheduler.new ≡ run_count scheduler.old }
     ensures nearer { to_come scheduler.new < to_come scheduler.old }
+    ensures later { is_some first_fault.new ≡ false → is_some first_fault.old ≡ false }
     ensures goes { (answer : Request → Exit) → P.answer procs.old ≡ answer →
         (slots : ℕ) (fail_fast : Bool) (old : List Event) (found : List RunEnd) →
+        (records : Bool) (before now : List Pass) →
         let setting = tests_with runs.now simulator.now
         (borrowed_files (K.latest_of store.now) graph.now) slots fail_fast in
-        Goes P.tells answer setting old scheduler.old found (is_some first_fault.old) (P.journal procs.old) →
-        Goes P.tells answer setting old scheduler.new found (is_some first_fault.new) (P.journal procs.new) }
+        GoesOn P.tells answer setting old scheduler.old found (is_some first_fault.old)
+        (P.journal procs.old) records before now →
+        GoesOn P.tells answer setting old scheduler.new found (is_some first_fault.new)
+        (P.journal procs.new) records before now }
     ensures counts { (first : BuildFaultCounts) (disks : ℕ) →
         CountsBy first_fault.old false first
         (record { children = child_counts P.Procs procs.old; disks = disks }) →

@@ -1,7 +1,9 @@
 -- Answers to the goals of `test_built`.
-use Rattle.std.proofs.Common.{◌≡◌, true, false, None, refl}
+use Rattle.std.proofs.Common.{◌≡◌, true, false, None, Some, refl}
 use Rattle.std.specs.List.{list_all}
 use Rattle.run_build.specs.Ran.{is_made}
+use Rattle.outside.specs.FaultCounts.{child_counts}
+use Rattle.run_tests.proofs.RecordCounts.{counts_unrecorded}
 use Rattle.run_tests.proofs.TestsAfter.{all_recorded, none_built}
 use Rattle.run_tests.proofs.build_and_test.test_built.Goals as goal
 
@@ -16,13 +18,13 @@ run_tests-requires-clause-recorded g c =
     all_recorded c.args.kept.statuses _ c.args.graph.now c.requires.count made c.requires.recorded
 
 pub returns-in-Ok-clause-fell : goal.returns-in-Ok-clause-fell
-returns-in-Ok-clause-fell g c = λ disks. (c.in-Ok.ensures.counts disks).none_fell
+returns-in-Ok-clause-fell g c = λ disks. (counts_unrecorded None (child_counts g.P.Procs c.args.procs.now) (child_counts g.P.Procs c.run_tests.new.procs) disks c.in-Ok.ensures.counts).none_fell
 
 pub returns-in-Ok-clause-explains : goal.returns-in-Ok-clause-explains
-returns-in-Ok-clause-explains g c = λ disks. (c.in-Ok.ensures.counts disks).explains
+returns-in-Ok-clause-explains g c = λ disks. (counts_unrecorded None (child_counts g.P.Procs c.args.procs.now) (child_counts g.P.Procs c.run_tests.new.procs) disks c.in-Ok.ensures.counts).explains
 
 pub returns-in-Err-clause-fell : goal.returns-in-Err-clause-fell
-returns-in-Err-clause-fell g c = λ disks. (c.in-Err.ensures.counts disks).none_fell
+returns-in-Err-clause-fell g c = λ disks. (counts_unrecorded (Some c.in-Err.fault) (child_counts g.P.Procs c.args.procs.now) (child_counts g.P.Procs c.run_tests.new.procs) disks c.in-Err.ensures.counts).none_fell
 
 pub returns-in-Err-clause-explains : goal.returns-in-Err-clause-explains
-returns-in-Err-clause-explains g c = λ disks. (c.in-Err.ensures.counts disks).explains
+returns-in-Err-clause-explains g c = λ disks. (counts_unrecorded (Some c.in-Err.fault) (child_counts g.P.Procs c.args.procs.now) (child_counts g.P.Procs c.run_tests.new.procs) disks c.in-Err.ensures.counts).explains
