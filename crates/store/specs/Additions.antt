@@ -13,6 +13,8 @@ use Rattle.store_codec.specs.Forms.RequestPayload.{OfRequest}
 use Rattle.store_codec.specs.Ranges.{request_in_ranges}
 use Rattle.store_codec.specs.RecordTables.{IsRequest, RecordTable, drafted_record, product_at, record_table_of}
 use Rattle.base_bytes.specs.TextRefs.{with_text}
+use Rattle.store_table.specs.declared.cutting.CutRequest.{CutRequest}
+use Rattle.store_table.specs.Cuts.{IsCutOf}
 use Rattle.store_table.specs.Checked.{AreTextNumbers, IsNameNumber, ref_number}
 use Rattle.store.specs.declared.additions.RequestAddition.{RequestAddition}
 use Rattle.store.specs.declared.asking.AskedPayload.{AskedPayload}
@@ -33,6 +35,10 @@ pub record AddsRequest (payloads : List (List ℕ)) (names : List FileName) (seg
   pub request : IsRequest (record_table_of payloads) (request_in_ranges segment addition.draft)
   pub name : IsNameNumber names (request_in_ranges segment addition.draft).name addition.name
   pub numbers : AreTextNumbers (record_table_of payloads).texts (request_in_ranges segment addition.draft) addition.numbers
+
+-- A payload without its text, where there is one, is one of the payload that is added: a file lends the text.
+abbrev pub IsCutFor : List (List ℕ) → List ℕ → RequestAddition → Option CutRequest → Type 0
+IsCutFor borrowed segment addition cut = IfSome cut (IsCutOf borrowed segment addition.draft addition.numbers.text)
 
 -- a file as a record, by the numbers of its texts, where they have one, and of the products that it depends on
 abbrev pub asked_draft : Entry → Option ℕ → List ℕ → Option ℕ → List ℕ → RequestDraft

@@ -28,9 +28,9 @@ pub record TakenState : Type 0 where
 abbrev pub AreBorrowedBy : List Entry → List (List ℕ) → Type 0
 AreBorrowedBy files borrowed = (number : ℕ) (other : Entry) → number < length borrowed → slice_index_or borrowed number [] ≡ (slice_index_or files number other).text
 
--- the least room of the lists and tables that a payload adds to; unless it is 0, one more record fits, which may add two texts
+-- the least room of the lists and tables that a payload adds to; unless it is 0, one more record fits, with two texts and one that a file lends
 abbrev pub held_room : HeldList → LocatedTable → ℕ
-held_room held table = min held.room (min (text_room table.texts - 1) (min table.products.room (min (vec_capacity table.rows - vec_len table.rows) table.latest.room)))
+held_room held table = min held.room (min (text_room table.texts - 2) (min table.products.room (min (vec_capacity table.rows - vec_len table.rows) table.latest.room)))
 
 -- the latest record of a name
 abbrev pub latest_held : List (List ℕ) → FileName → Option RequestRecord

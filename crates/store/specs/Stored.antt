@@ -15,8 +15,9 @@ use Rattle.store_codec.specs.Compaction.{compacted_requests}
 use Rattle.store_codec.specs.Ranges.{request_in_ranges}
 use Rattle.outside.specs.Records.{HasRecordsOf, IsAllOrLatest, Record as RequestRecord, is_of as asks_for, latest_alone as latest_requests}
 use Rattle.store_codec.specs.RecordTables.{drafted_record, record_table_of, requests_among}
+use Rattle.store_table.specs.declared.cutting.CutRequest.{CutRequest}
 use Rattle.store.specs.declared.additions.RequestAddition.{RequestAddition}
-use Rattle.store.specs.Additions.{AddsRequest, added_name, no_entry}
+use Rattle.store.specs.Additions.{AddsRequest, IsCutFor, added_name, no_entry}
 use Rattle.store.specs.Held.{HeldState}
 use Rattle.store.specs.LookedUp.{AreRecordHandles}
 use Rattle.store.specs.declared.handles.RecordHandle.{RecordHandle}
@@ -31,14 +32,15 @@ pub record RequestStoreState : Type 0 where
   pub held : HeldState
   pub handles : List (Option RecordHandle)
 
--- a record that is ready to be committed: its payload, and what that adds
+-- a record that is ready to be committed: its payload, what that adds, and the payload without its text, where a file lends that
 pub record PreparedState : Type 0 where
   pub payload : List ℕ
   pub addition : RequestAddition
+  pub cut : Option CutRequest
 
--- a payload, with what it adds
-abbrev pub prepared_of : List ℕ → RequestAddition → PreparedState
-prepared_of payload addition = record { payload = payload; addition = addition }
+-- a payload, with what it adds, and without its text where a file lends that
+abbrev pub prepared_of : List ℕ → RequestAddition → Option CutRequest → PreparedState
+prepared_of payload addition cut = record { payload = payload; addition = addition; cut = cut }
 
 -- the records of the payloads of form 3 alone
 abbrev pub own_requests : Image → List RequestRecord
@@ -89,6 +91,7 @@ prepared_record payloads prepared = drafted_record (record_table_of payloads) (r
 -- A prepared record is one that the payloads of a store take up, and there is room for it.
 pub record IsRequestReady (held : HeldState) (prepared : PreparedState) : Type 0 where
   pub adds : AddsRequest held.payloads held.names prepared.payload prepared.addition
+  pub cut : IsCutFor held.borrowed prepared.payload prepared.addition prepared.cut
   pub room : 0 < held.room
 
 -- A record was prepared for the file at a position of a graph.

@@ -14,7 +14,7 @@ ghost use Rattle.outside.specs.Records.{IsRecorded as IsCurrentLatest, HasLatest
 ghost use Rattle.store.specs.LookedUp.{AreRecordHandles, HasTextSaid, IsLatestProduct, IsRecordHandle};
 ghost use Rattle.base.specs.Graphs.{IsGraph};
 ghost use Rattle.outside.specs.Records.{deps_at};
-ghost use Rattle.store.specs.Additions.{AddsAsked, AddsRequest, AreDeps, IsRequestOver, added_name, no_entry, record_over};
+ghost use Rattle.store.specs.Additions.{AddsAsked, AddsRequest, AreDeps, IsCutFor, IsRequestOver, added_name, no_entry, record_over};
 ghost use Rattle.store.specs.Held.{AreBorrowedBy, IsLatestRow, latest_held};
 
 use crate::additions::put_held;
@@ -28,7 +28,10 @@ use base::{Entry, FileName, Graph, Items, NoMemory, Text};
 use std::alloc::Global;
 use std::marker::Model;
 use store_journal::{Payloads, Ready};
-use store_table::{HeldPayloads, LocatedTable, is_borrowed_from, number_name, taken_up, text_at};
+use store_table::{
+    CutRequest, HeldPayloads, LocatedTable, is_borrowed_from, lent_cut, number_name, taken_up,
+    text_at,
+};
 
 /// Payloads, in order, with what they stand for. Contracts see the payloads, the names that are numbered, the texts of files that
 /// are borrowed, and for how many more payloads there is room.
@@ -285,6 +288,8 @@ impl<'g> LoadedStore<'g> {
         requires over { IsRequestOver (record_table_of self.now.payloads) entry.now deps.now artefact.now }
         ensures adds { IfOk result
             (λ next. AddsRequest self.now.payloads self.now.names next.segment next.addition) }
+        ensures cut { IfOk result
+            (λ next. IsCutFor self.now.borrowed next.segment next.addition next.cut) }
         ensures is { let table = record_table_of self.now.payloads in
             IfOk result
             (λ next.
@@ -294,6 +299,15 @@ impl<'g> LoadedStore<'g> {
     {
         let refs = text_refs(&self.held, &self.table.texts, entry.text.bytes(), artefact);
         let AskedPayload { segment, draft } = asked_payload(alloc, entry, refs, deps, artefact)?;
+        let number = refs.numbers.text;
+        let cut = lent_cut(
+            alloc,
+            &self.held,
+            segment.payload(),
+            draft,
+            at as usize,
+            number,
+        )?;
         Ok(NextRequest {
             segment,
             addition: RequestAddition {
@@ -302,6 +316,7 @@ impl<'g> LoadedStore<'g> {
                 name,
                 numbers: refs.numbers,
             },
+            cut,
         })
     }
 
@@ -322,6 +337,8 @@ impl<'g> LoadedStore<'g> {
         requires deps { AreDeps (record_table_of self.now.payloads) graph.now at deps.now }
         ensures adds { IfOk result
             (λ next. AddsRequest self.now.payloads self.now.names next.segment next.addition) }
+        ensures cut { IfOk result
+            (λ next. IsCutFor self.now.borrowed next.segment next.addition next.cut) }
         ensures is { IfOk result
             (λ next.
             AddsAsked (record_table_of self.now.payloads) graph.now at artefact.now next.segment
@@ -352,6 +369,8 @@ impl<'g> LoadedStore<'g> {
         ensures room { OnOk result (0 < self.new.room) }
         ensures adds { IfOk result
             (λ next. AddsRequest self.new.payloads self.new.names next.segment next.addition) }
+        ensures cut { IfOk result
+            (λ next. IsCutFor self.new.borrowed next.segment next.addition next.cut) }
         ensures is { IfOk result
             (λ next.
             AddsAsked (record_table_of self.old.payloads) graph.now at artefact.now next.segment
@@ -367,8 +386,15 @@ impl<'g> LoadedStore<'g> {
     }
 
     /// Adds a payload that was prepared, at the end, and seats its record in the place of the one before. It takes no memory.
-    pub fn put(&mut self, addition: RequestAddition, segment: Ready, handles: &mut RecordHandles)
+    pub fn put(
+        &mut self,
+        addition: RequestAddition,
+        segment: Ready,
+        cut: Option<CutRequest>,
+        handles: &mut RecordHandles,
+    )
         requires ready { AddsRequest self.old.payloads self.old.names segment addition }
+        requires cut { IsCutFor self.old.borrowed segment addition cut }
         requires room { 0 < self.old.room }
         requires handle { addition.at < length handles.old }
         ensures payloads { self.new.payloads ≡ self.old.payloads ++ segment ∷ [] }
@@ -378,7 +404,7 @@ impl<'g> LoadedStore<'g> {
             AreRecordHandles (record_table_of self.new.payloads) graph handles.new }
     {
         let row = self.table.rows.len();
-        put_held(&mut self.held, &mut self.table, addition, segment);
+        put_held(&mut self.held, &mut self.table, addition, segment, cut);
         let product = self.table.rows[row].product;
         let handle = RecordHandle {
             row,
@@ -416,10 +442,12 @@ impl<'g> LoadedStore<'g> {
         let copied = entry.name.copy(alloc)?;
         let name = self.number_of_name(copied)?;
         self.reserve()?;
-        let NextRequest { segment, addition } = self.next_over(
-            alloc, entry, 0, name, deps, artefact,
-        )?;
-        put_held(&mut self.held, &mut self.table, addition, segment);
+        let NextRequest {
+            segment,
+            addition,
+            cut,
+        } = self.next_over(alloc, entry, 0, name, deps, artefact)?;
+        put_held(&mut self.held, &mut self.table, addition, segment, cut);
         Ok(())
     }
 }

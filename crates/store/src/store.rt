@@ -22,6 +22,7 @@ use outside::{Disk, StoreFault};
 use std::alloc::Global;
 use std::marker::Model;
 use store_journal::{Journal, Payloads, Ready};
+use store_table::CutRequest;
 
 /// The store of requests on a disk. A record has the compiler's words, the file with its text, the built files that it depends on,
 /// and the artefact that the compiler gave. The last record of a name counts. A store is opened over a graph, whose files it
@@ -45,11 +46,13 @@ impl<'g> Model for RequestStore<'g> {
     ghost invariant = { λ a. a.journal.form ≡ 3 };
 }
 
-/// A record that is ready to be committed. Contracts see its payload, and what that adds.
+/// A record that is ready to be committed. Contracts see its payload, what that adds, and the payload without its text, where a
+/// file lends that.
 #[derive(Drop)]
 pub struct PreparedRequest {
     ready: Ready,
     addition: RequestAddition,
+    cut: Option<CutRequest>,
 }
 
 impl Model for PreparedRequest {
@@ -57,7 +60,7 @@ impl Model for PreparedRequest {
 
     ghost Value = { PreparedState };
 
-    ghost view = { λ a. record { payload = a.ready; addition = a.addition } };
+    ghost view = { λ a. record { payload = a.ready; addition = a.addition; cut = a.cut } };
 }
 
 /// A store of a journal and what its payloads stand for, with the files of a graph looked up. Texts that it borrows are those of
@@ -236,12 +239,17 @@ impl<'g> RequestStore<'g> {
             prepared.payload prepared.addition) }
         ensures at { IfOk result (IsPreparedAt graph.now at) }
     {
-        let NextRequest { segment, addition } = self
+        let NextRequest {
+            segment,
+            addition,
+            cut,
+        } = self
             .held
             .prepare(alloc, &self.handles, graph, at, artefact)?;
         Ok(PreparedRequest {
             ready: segment,
             addition,
+            cut,
         })
     }
 
@@ -283,9 +291,13 @@ impl<'g> RequestStore<'g> {
         ensures cause { DiskCounts result (D.failed_disk_calls disk.old)
             (D.failed_disk_calls disk.new) }
     {
-        let PreparedRequest { ready, addition } = prepared;
+        let PreparedRequest {
+            ready,
+            addition,
+            cut,
+        } = prepared;
         self.journal.commit(disk, &ready)?;
-        self.held.put(addition, ready, &mut self.handles);
+        self.held.put(addition, ready, cut, &mut self.handles);
         Ok(())
     }
 

@@ -1,13 +1,12 @@
 -- The parts of a record whose text was cut from its payload.
 use Rattle.std.proofs.Common.{◌≡◌, ℕ, List, sym, ap, ◌∙◌}
-use Rattle.base_bytes.specs.declared.ranges.ByteRange.{ByteRange}
 use Rattle.store_codec.specs.declared.reading.RequestRanges.{RequestRanges}
-use Rattle.base_bytes.specs.declared.text_refs.TextRange.TheVariants.{Known, Full}
+use Rattle.base_bytes.specs.declared.text_refs.TextRange.TheVariants.{Known}
 use Rattle.store_codec.specs.Forms.{RequestDraft}
 use Rattle.base_bytes.specs.TextRefs.{TextRef, ref_in_range}
 use Rattle.base_bytes.specs.TextRefs.TextRef.{ByNumber, InFull}
 use Rattle.store_codec.specs.Ranges.{request_in_ranges}
-use Rattle.base_bytes.specs.Ranges.{counted_words, ranged}
+use Rattle.base_bytes.specs.Ranges.{counted_words}
 use Rattle.store_table.specs.Cuts.{AreSameParts, with_source}
 
 -- a draft of its parts
@@ -32,7 +31,6 @@ known_source bytes draft number other source e =
     ap (λ (s : TextRef). with_source s (request_in_ranges bytes draft)) (ap (ref_in_range bytes) source ∙ ap (λ (n : ℕ). ByNumber n) e)
 
 -- with the text in full it is the one of the payload
-pub drafted_whole : (bytes : List ℕ) (draft : RequestRanges) (range : ByteRange) (number : ℕ) (text : List ℕ) (cut : RequestDraft) → draft.source ≡ Full range → text ≡ ranged bytes range → cut ≡ with_source (ByNumber number) (request_in_ranges bytes draft) → with_source (InFull text) cut ≡ request_in_ranges bytes draft
-drafted_whole bytes draft range number text cut source is parts =
-    ap (with_source (InFull text)) parts
-    ∙ ap (λ (s : TextRef). with_source s (request_in_ranges bytes draft)) (ap (λ (t : List ℕ). InFull t) is ∙ sym (ap (ref_in_range bytes) source))
+pub drafted_whole : (bytes : List ℕ) (draft : RequestRanges) (number : ℕ) (text : List ℕ) (cut : RequestDraft) → ref_in_range bytes draft.source ≡ InFull text → cut ≡ with_source (ByNumber number) (request_in_ranges bytes draft) → with_source (InFull text) cut ≡ request_in_ranges bytes draft
+drafted_whole bytes draft number text cut source parts =
+    ap (with_source (InFull text)) parts ∙ ap (λ (s : TextRef). with_source s (request_in_ranges bytes draft)) (sym source)

@@ -1,11 +1,11 @@
 -- Payloads that are taken up without the text of a file.
-use Rattle.std.specs.Prelude.{◌≡◌, ℕ, ◌≤◌, Bool, true, false, List, [], ◌∷◌, ◌++◌, length, take, drop}
+use Rattle.std.specs.Prelude.{◌≡◌, ℕ, ◌≤◌, Bool, true, false, List, [], ◌∷◌, ◌++◌, ◌<◌, length, take, drop, slice_index_or}
 use Rattle.base_bytes.specs.declared.ranges.ByteRange.{ByteRange}
 use Rattle.store_codec.specs.declared.reading.RequestRanges.{RequestRanges}
 use Rattle.base_bytes.specs.declared.text_refs.TextRange.TheVariants.{Known}
 use Rattle.store_codec.specs.Forms.{RequestDraft}
 use Rattle.base_bytes.specs.TextRefs.{TextRef, ref_in_range}
-use Rattle.base_bytes.specs.TextRefs.TextRef.{ByNumber}
+use Rattle.base_bytes.specs.TextRefs.TextRef.{ByNumber, InFull}
 use Rattle.store_codec.specs.Ranges.{request_in_ranges}
 use Rattle.base_bytes.specs.Ranges.{counted_numbers, range_end, ranged}
 use Rattle.store_codec.specs.RecordTables.{RecordTable}
@@ -29,13 +29,14 @@ pub record AreSameParts (bytes : List ℕ) (draft : RequestRanges) (rest : List 
 abbrev pub with_source : TextRef → RequestDraft → RequestDraft
 with_source source draft = record { name = draft.name; command = draft.command; source = source; deps = draft.deps; artefact = draft.artefact }
 
--- The payload of a record from which the text in a range was cut. With that text put back, it is the whole payload. Its parts are
--- the parts of the record, except that the source text is given by its number. A file holds the text.
-pub record IsCutOf (bytes : List ℕ) (draft : RequestRanges) (range : ByteRange) (number : ℕ) (file : ℕ) (cut : CutRequest) : Type 0 where
-  pub whole : bytes ≡ with_cut (ranged bytes range) cut.payload
+-- The payload of a record from which a text was cut that a file lends. With that text put back, it is the whole payload. Its parts
+-- are the parts of the record, except that the source text is given by its number.
+pub record IsCutOf (borrowed : List (List ℕ)) (bytes : List ℕ) (draft : RequestRanges) (number : ℕ) (cut : CutRequest) : Type 0 where
+  pub file : cut.payload.file < length borrowed
+  pub text : ref_in_range bytes draft.source ≡ InFull (slice_index_or borrowed cut.payload.file [])
+  pub whole : bytes ≡ with_cut (slice_index_or borrowed cut.payload.file []) cut.payload
   pub parts : request_in_ranges cut.payload.rest cut.draft ≡ with_source (ByNumber number) (request_in_ranges bytes draft)
   pub source : cut.draft.source ≡ Known number
-  pub file_is : cut.payload.file ≡ file
 
 -- a table with one more text
 abbrev pub with_new_text : RecordTable → List ℕ → RecordTable

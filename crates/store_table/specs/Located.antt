@@ -138,9 +138,9 @@ pub record IsHeld (segments payloads : List (List ℕ)) (table : LocatedTable) :
 abbrev pub text_room : LocatedTexts → ℕ
 text_room texts = min (vec_capacity texts.indices - vec_len texts.indices) texts.index.room
 
--- There is room for what one record adds: two texts, a product, a row, and the number of its name.
-pub record HasRowRoom (table : LocatedTable) : Type 0 where
-  pub texts : 2 ≤ text_room table.texts
+-- There is room for what one record adds: this many texts, a product, a row, and the number of its name.
+pub record HasRowRoom (count : ℕ) (table : LocatedTable) : Type 0 where
+  pub texts : count ≤ text_room table.texts
   pub product : 0 < table.products.room
   pub row : vec_len table.rows < vec_capacity table.rows
   pub latest : 0 < table.latest.room

@@ -9,7 +9,7 @@ ghost use Rattle.base_bytes.specs.TextRefs.TextRef.{ByNumber, InFull};
 ghost use Rattle.store_codec.specs.Ranges.{request_in_ranges};
 ghost use Rattle.base_bytes.specs.Ranges.{counted_numbers, counted_words, range_end, ranged};
 ghost use Rattle.base_bytes.specs.TextRefs.{ref_in_range};
-ghost use Rattle.store_codec.specs.RecordTables.{IsRequest, with_request};
+ghost use Rattle.store_codec.specs.RecordTables.{IsRequest, record_table_of, with_request};
 ghost use Rattle.store_table.specs.Checked.{AreTextNumbers, IsNameNumber};
 ghost use Rattle.store_table.specs.Cuts.{AreSameParts, HasTaken, IsCutOf, IsWithout, TookOrLeft, with_new_text, with_source};
 ghost use Rattle.store_table.specs.Located.{HasRowRoom, IsHeld, IsTableLocated, nth_payload, located_table, located_texts, with_cut};
@@ -127,13 +127,16 @@ fn cut_request(
     draft: RequestRanges,
     range: ByteRange,
     command: &TextList,
-    number: u64,
+    number: usize,
     file: usize,
 ) -> Result<Option<CutRequest>, NoMemory>
-    ensures { IfOk result (λ found.
-        IfSome found (λ cut. IsCutOf payload.now draft range number file cut)) }
+    ensures { (borrowed : List (List ℕ)) →
+        file < length borrowed →
+        nth_payload borrowed file ≡ ranged payload.now range →
+        draft.source ≡ Full range →
+        IfOk result (λ found. IfSome found (IsCutOf borrowed payload.now draft number)) }
 {
-    let Some(new) = moved_request(draft, range, number) else {
+    let Some(new) = moved_request(draft, range, number as u64) else {
         return Ok(None);
     };
     if !has_range(payload.len(), range) {
@@ -153,6 +156,32 @@ fn cut_request(
     }))
 }
 
+/// The payload of a record without its text, which will have the number `number`, if the file of the number `file` has the same
+/// text and the same words.
+pub fn lent_cut(
+    alloc: Global,
+    held: &HeldPayloads<'_>,
+    payload: &[u8],
+    draft: RequestRanges,
+    file: usize,
+    number: usize,
+) -> Result<Option<CutRequest>, NoMemory>
+    ensures { IfOk result
+        (λ found. IfSome found (IsCutOf held.now.borrowed payload.now draft number)) }
+{
+    let TextRange::Full(range) = draft.source else {
+        return Ok(None);
+    };
+    let Some(entry) = held.file(file) else {
+        return Ok(None);
+    };
+    if bytes_in(payload, range) != entry.text.bytes() {
+        return Ok(None);
+    }
+    let cut = cut_request(alloc, payload, draft, range, &entry.command, number, file)?;
+    Ok(cut)
+}
+
 /// Whether some bytes and some others have the words of a file from the start of a range on.
 fn has_same_words(bytes: &[u8], others: &[u8], words: ByteRange, command: &TextList) -> bool
     ensures { IsTrue result → counted_words others.now words ≡ counted_words bytes.now words }
@@ -167,23 +196,19 @@ fn has_same_words(bytes: &[u8], others: &[u8], words: ByteRange, command: &TextL
 }
 
 /// Puts a text that isn't there, which is a segment, at the end.
-fn put_source(
-    table: &mut LocatedTable,
-    held: &HeldPayloads<'_>,
-    segment: usize,
-) -> Result<(), NoMemory>
+fn put_source(table: &mut LocatedTable, held: &HeldPayloads<'_>, segment: usize)
+    requires room { HasRowRoom 3 table.old }
     requires segment { segment < length held.now.segments }
     requires table { IsTableLocated held.now.segments table.old }
     requires new { ¬ Contains (located_texts held.now.segments table.old.texts)
         (nth_payload held.now.segments segment) }
-    ensures are { OnOk result (IsTableLocated held.now.segments table.new) }
-    ensures is { OnOk result
-        (located_table held.now.segments table.new
+    ensures are { IsTableLocated held.now.segments table.new }
+    ensures is { located_table held.now.segments table.new
         ≡ with_new_text (located_table held.now.segments table.old)
-        (nth_payload held.now.segments segment)) }
+        (nth_payload held.now.segments segment) }
     ensures names { table.new.names.keys ≡ table.old.names.keys }
+    ensures room { HasRowRoom 2 table.new }
 {
-    table.reserve()?;
     let count = held.get(segment).len();
     put_text(
         &mut table.texts,
@@ -191,7 +216,6 @@ fn put_source(
         segment,
         ByteRange { start: 0, count },
     );
-    Ok(())
 }
 
 /// Puts a record whose text is new, and a segment, and whose other parts are in another segment.
@@ -203,7 +227,8 @@ fn put_cut_request(
     draft: RequestRanges,
     name: usize,
     numbers: TextNumbers,
-) -> Result<(), NoMemory>
+)
+    requires room { HasRowRoom 3 table.old }
     requires at { at < length held.now.segments }
     requires segment { segment < length held.now.segments }
     requires table { IsTableLocated held.now.segments table.old }
@@ -217,90 +242,76 @@ fn put_cut_request(
         (with_source (InFull (nth_payload held.now.segments segment))
         (request_in_ranges (nth_payload held.now.segments at) draft))
         numbers }
-    ensures are { OnOk result (IsTableLocated held.now.segments table.new) }
-    ensures is { OnOk result
-        (located_table held.now.segments table.new
+    ensures are { IsTableLocated held.now.segments table.new }
+    ensures is { located_table held.now.segments table.new
         ≡ with_request (located_table held.now.segments table.old)
         (with_source (InFull (nth_payload held.now.segments segment))
-        (request_in_ranges (nth_payload held.now.segments at) draft))) }
+        (request_in_ranges (nth_payload held.now.segments at) draft)) }
 {
-    put_source(table, held, segment)?;
-    table.reserve()?;
+    put_source(table, held, segment);
     put_request(table, held, at, draft, name, numbers);
-    Ok(())
 }
 
-/// Adds the payload of a record without its text, which is that of a file, and takes it up.
-fn take_cut(
+/// Adds the payload of a record without its text, which a file lends, with what the record stands for. It takes no memory.
+pub fn put_lent(
     table: &mut LocatedTable,
     held: &mut HeldPayloads<'_>,
     payload: &[u8],
     draft: RequestRanges,
-    range: ByteRange,
     name: usize,
     numbers: TextNumbers,
     cut: CutRequest,
-) -> Result<(), NoMemory>
+)
+    requires room { 0 < held.old.room }
+    requires row_room { HasRowRoom 3 table.old }
     requires held { IsHeld held.old.segments held.old.payloads table.old }
     requires read { request_payload_in payload.now
         ≡ Some (OfRequest (request_in_ranges payload.now draft)) }
-    requires source { draft.source ≡ Full range }
     requires name { IsNameNumber table.old.names.keys
         (request_in_ranges payload.now draft).name name }
-    requires request { IsRequest (located_table held.old.segments table.old)
+    requires request { IsRequest (record_table_of held.old.payloads)
         (request_in_ranges payload.now draft) }
-    requires numbers { AreTextNumbers (located_texts held.old.segments table.old.texts)
+    requires numbers { AreTextNumbers (record_table_of held.old.payloads).texts
         (request_in_ranges payload.now draft) numbers }
-    requires cut { IsCutOf payload.now draft range numbers.text name cut }
-    requires file { name < length held.old.borrowed }
-    requires within { name < length held.old.segments }
-    requires text { nth_payload held.old.segments name ≡ ranged payload.now range }
-    ensures { OnOk result (HasTaken held.old held.new table.new payload.now) }
+    requires cut { IsCutOf held.old.borrowed payload.now draft numbers.text cut }
+    ensures { HasTaken held.old held.new table.new payload.now }
 {
     let CutRequest {
         payload: cut,
         draft: new,
     } = cut;
     let at = held.len();
-    held.put_cut(cut)?;
-    put_cut_request(table, held, at, name, new, name, numbers)?;
-    Ok(())
+    let file = cut.file;
+    held.put_cut(cut);
+    put_cut_request(table, held, at, file, new, name, numbers);
 }
 
-/// Takes up the payload of a record, if a file of the number of its name has its text and its words.
-fn take_over_file(
-    alloc: Global,
+/// Takes up the payload of a record whose text a file lends, if it is a record.
+fn take_cut(
     table: &mut LocatedTable,
     set: &mut NumberSet,
     held: &mut HeldPayloads<'_>,
     payload: &[u8],
     draft: RequestRanges,
-    range: ByteRange,
     name: usize,
+    cut: CutRequest,
 ) -> Result<bool, NoMemory>
     requires held { IsHeld held.old.segments held.old.payloads table.old }
     requires read { request_payload_in payload.now
         ≡ Some (OfRequest (request_in_ranges payload.now draft)) }
-    requires source { draft.source ≡ Full range }
     requires name { IsNameNumber table.old.names.keys
         (request_in_ranges payload.now draft).name name }
     requires fits { FitsName (request_in_ranges payload.now draft).name }
+    requires cut { IsCutOf held.old.borrowed payload.now draft
+        (length table.old.texts.indices.items) cut }
     ensures { IfOk result (λ taken. TookOrLeft taken held.old held.new table.new payload.now) }
 {
-    let Some(file) = held.file(name) else {
-        return Ok(false);
-    };
-    if bytes_in(payload, range) != file.text.bytes() {
-        return Ok(false);
-    }
     let Some(numbers) = checked_request(set, held, table, payload, draft, name)? else {
         return Ok(false);
     };
-    let number = numbers.text as u64;
-    let Some(cut) = cut_request(alloc, payload, draft, range, &file.command, number, name)? else {
-        return Ok(false);
-    };
-    take_cut(table, held, payload, draft, range, name, numbers, cut)?;
+    held.reserve()?;
+    table.reserve()?;
+    put_lent(table, held, payload, draft, name, numbers, cut);
     Ok(true)
 }
 
@@ -318,15 +329,19 @@ fn take_slice_request(
         ≡ Some (OfRequest (request_in_ranges payload.now draft)) }
     ensures { IfOk result (λ taken. TookOrLeft taken held.old held.new table.new payload.now) }
 {
-    let TextRange::Full(range) = draft.source else {
+    let TextRange::Full(_range) = draft.source else {
         return Ok(false);
     };
     let name = name_in(alloc, payload, draft.library, draft.path)?;
     if !name.is_within_limits() {
         return Ok(false);
     }
-    let number = number_name(table, name)?;
-    take_over_file(alloc, table, set, held, payload, draft, range, number)
+    let name = number_name(table, name)?;
+    let number = table.texts.indices.len();
+    match lent_cut(alloc, held, payload, draft, name, number)? {
+        Some(cut) => take_cut(table, set, held, payload, draft, name, cut),
+        None => Ok(false),
+    }
 }
 
 /// Takes up a payload, if it is that of a record of which a file has the text.

@@ -116,11 +116,10 @@ impl<'g> HeldPayloads<'g> {
         self.more[number - files - opened].segment()
     }
 
-    /// The file of a number, if it has one, whose text is the segment of that number.
+    /// The file of a number, if it has one, whose text is borrowed.
     pub(crate) fn file(&self, number: usize) -> Option<&'g Entry>
         ensures there { IfSome result (λ _. number < length self.now.borrowed) }
-        ensures within { IfSome result (λ _. number < length self.now.segments) }
-        ensures text { IfSome result (λ file. nth_payload self.now.segments number ≡ file.now.text) }
+        ensures text { IfSome result (λ file. nth_payload self.now.borrowed number ≡ file.now.text) }
     {
         if number >= self.files.len() {
             return None;
@@ -168,16 +167,18 @@ impl<'g> HeldPayloads<'g> {
         Ok(())
     }
 
-    /// Adds a payload at the end whose text is that of a file. After `NoMemory` the payloads are unchanged.
-    pub(crate) fn put_cut(&mut self, cut: CutPayload) -> Result<(), NoMemory>
-        requires { cut.file < length self.old.borrowed }
-        ensures segments { OnOk result (self.new.segments ≡ self.old.segments ++ cut.rest ∷ []) }
-        ensures payloads { OnOk result
-            (self.new.payloads
-            ≡ self.old.payloads ++ with_cut (nth_payload self.old.segments cut.file) cut ∷ []) }
+    /// Adds a payload at the end whose text is that of a file. It takes no memory.
+    pub(crate) fn put_cut(&mut self, cut: CutPayload)
+        requires room { 0 < self.old.room }
+        requires file { cut.file < length self.old.borrowed }
+        ensures segments { self.new.segments ≡ self.old.segments ++ cut.rest ∷ [] }
+        ensures payloads { self.new.payloads
+            ≡ self.old.payloads ++ with_cut (nth_payload self.old.borrowed cut.file) cut ∷ [] }
         ensures borrowed { self.new.borrowed ≡ self.old.borrowed }
+        ensures within { cut.file < length self.old.segments }
+        ensures text { nth_payload self.old.segments cut.file
+            ≡ nth_payload self.old.borrowed cut.file }
     {
-        self.more.push(HeldPayload::Cut(cut))?;
-        Ok(())
+        self.more.push_reserved(HeldPayload::Cut(cut));
     }
 }

@@ -59,7 +59,7 @@ pub fn put_request(
     name: usize,
     numbers: TextNumbers,
 )
-    requires room { HasRowRoom table.old }
+    requires room { HasRowRoom 2 table.old }
     requires at { at < length held.now.segments }
     requires table { IsTableLocated held.now.segments table.old }
     requires name { IsNameNumber table.old.names.keys
@@ -103,7 +103,7 @@ pub fn put_product(
     name: usize,
     text: usize,
 )
-    requires room { HasRowRoom table.old }
+    requires room { HasRowRoom 2 table.old }
     requires at { at < length held.now.segments }
     requires table { IsTableLocated held.now.segments table.old }
     requires name { IsNameNumber table.old.names.keys

@@ -47,16 +47,16 @@ impl LocatedTable {
         }
     }
 
-    /// Makes room for what one more payload adds. What is placed is unchanged.
+    /// Makes room for what one more payload adds, and for a text of a file. What is placed is unchanged.
     pub fn reserve(&mut self) -> Result<(), NoMemory>
         ensures are { (payloads : List (List ℕ)) →
             IsTableLocated payloads self.old → IsTableLocated payloads self.new }
         ensures is { (payloads : List (List ℕ)) →
             located_table payloads self.new ≡ located_table payloads self.old }
         ensures names { self.new.names.keys ≡ self.old.names.keys }
-        ensures room { OnOk result (HasRowRoom self.new) }
+        ensures room { OnOk result (HasRowRoom 3 self.new) }
     {
-        self.texts.reserve(2)?;
+        self.texts.reserve(3)?;
         self.products.reserve()?;
         self.rows.reserve(1)?;
         self.latest.reserve()

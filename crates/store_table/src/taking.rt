@@ -24,7 +24,7 @@ pub fn number_name(table: &mut LocatedTable, name: FileName) -> Result<usize, No
         IsTableLocated payloads table.old → IsTableLocated payloads table.new }
     ensures is { (payloads : List (List ℕ)) → IsTableLocated payloads table.old →
         located_table payloads table.new ≡ located_table payloads table.old }
-    ensures room { HasRowRoom table.old → HasRowRoom table.new }
+    ensures room { (count : ℕ) → HasRowRoom count table.old → HasRowRoom count table.new }
 {
     let number = table.names.add(name)?;
     Ok(number)

@@ -22,7 +22,7 @@ put_request-requires-clause-request c =
     let text : List ℕ = nth_payload c.args.held.now.segments c.args.segment in
     let draft : RequestDraft = request_in_ranges (nth_payload c.args.held.now.segments c.args.at) c.args.draft in
     let is : IsRequest (located_table c.args.held.now.segments c.args.table.now) (with_source (InFull (nth_payload c.args.held.now.segments c.args.segment)) (request_in_ranges (nth_payload c.args.held.now.segments c.args.at) c.args.draft)) = record { name = c.requires.request.name; command = c.requires.request.command; source = c.requires.request.source; text_small = c.requires.request.text_small; artefact = c.requires.request.artefact; small = c.requires.request.small; few = c.requires.request.few; there = c.requires.request.there; apart = c.requires.request.apart; others = c.requires.request.others } in
-    let there = c.in_ok-reserve.ensures.is segments ∙ c.in_ok-put_source.ensures.is in
+    let there = c.put_source.ensures.is in
     let known = known_source (nth_payload segments c.args.at) c.args.draft c.args.numbers.text (length before.texts) c.requires.source c.requires.numbers.text in
     subst (λ (s : RecordTable). IsRequest s (request_in_ranges (nth_payload c.args.held.now.segments c.args.at) c.args.draft)) (sym there)
     (subst (IsRequest (with_new_text before text)) (sym known) (request_over before text draft is))
@@ -33,7 +33,7 @@ returns-clause-is c =
     let before : RecordTable = located_table c.args.held.now.segments c.args.table.now in
     let text : List ℕ = nth_payload c.args.held.now.segments c.args.segment in
     let draft : RequestDraft = request_in_ranges (nth_payload c.args.held.now.segments c.args.at) c.args.draft in
-    let there = c.in_ok-reserve.ensures.is segments ∙ c.in_ok-put_source.ensures.is in
+    let there = c.put_source.ensures.is in
     let known = known_source (nth_payload segments c.args.at) c.args.draft c.args.numbers.text (length before.texts) c.requires.source c.requires.numbers.text in
     c.put_request.ensures.is
     ∙ ap (λ (s : RecordTable). with_request s (request_in_ranges (nth_payload c.args.held.now.segments c.args.at) c.args.draft)) there

@@ -8,4 +8,4 @@ returns-clause-at c =
     let contents = record_table_of c.self.inside.held.payloads in
     let segment = c.in_ok-segment.field-0.segment in
     let addition = c.in_ok-segment.field-0.addition in
-    prepared_at contents c.args.graph.now c.args.at c.args.artefact.now (prepared_of segment addition) c.requires.at c.in_ok-segment.ensures.at c.in_ok-segment.ensures.is
+    prepared_at contents c.args.graph.now c.args.at c.args.artefact.now (prepared_of segment addition c.in_ok-segment.field-0.cut) c.requires.at c.in_ok-segment.ensures.at c.in_ok-segment.ensures.is

@@ -7,7 +7,7 @@ use Rattle.store_table.specs.Located.{nth_payload, located_table}
 use Rattle.store_table.proofs.Keeping.{keeps_more}
 use Rattle.store.proofs.Adding.{adds_table}
 use Rattle.store_table.proofs.Longer.{table_located_still, table_same_still}
-use Rattle.store.proofs.additions.put_held.Goals as goal
+use Rattle.store.proofs.additions.put_whole.Goals as goal
 
 pub put_request-requires-clause-table : goal.put_request-requires-clause-table
 put_request-requires-clause-table c =
