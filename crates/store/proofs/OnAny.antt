@@ -1,5 +1,5 @@
 -- What holds whatever a call answers.
-use Rattle.std.proofs.Common.{◌≡◌, List, None, Result, Ok, Err, ap, sym, subst, subst₂, ◌∙◌}
+use Rattle.std.proofs.Common.{◌≡◌, List, None, false, Result, Ok, Err, ap, sym, subst, subst₂, ◌∙◌}
 use Rattle.std.specs.Prelude.{IfOk, OnOk}
 use Rattle.base.specs.declared.file.FileName.{FileName}
 use Rattle.base.specs.declared.graph.Entry.{Entry}
@@ -27,3 +27,8 @@ still_borrowed (Err fault) held files same borrowed = tt
 pub still_none : {E : Type 0} (result : Result RequestStoreState E) (held : HeldState) → IfOk result (λ store. store.held ≡ held) → ((name : FileName) → latest_held held.payloads name ≡ None) → IfOk result (λ store. (name : FileName) → latest_held store.held.payloads name ≡ None)
 still_none (Ok store) held same none = λ name. ap (λ (h : HeldState). latest_held h.payloads name) same ∙ none name
 still_none (Err fault) held same none = tt
+
+-- and its journal can be used where it could be used
+pub still_usable : {E : Type 0} (result : Result RequestStoreState E) (journal : JournalState) → IfOk result (λ store. store.journal ≡ journal) → journal.broken ≡ false → IfOk result (λ store. store.journal.broken ≡ false)
+still_usable (Ok store) journal same usable = ap (λ (j : JournalState). j.broken) same ∙ usable
+still_usable (Err fault) journal same usable = tt

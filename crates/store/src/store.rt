@@ -16,12 +16,12 @@ ghost use Rattle.store.specs.Stored.{AreAllOrLatest, HasCompactedOver, HasReques
 
 use crate::compacting::compact_where_asked;
 use crate::reading::{EARLIER_FORM, FORM, Parts, read};
-use crate::{LoadedStore, NextRequest, RecordHandles, RequestAddition};
+use crate::{LoadedStore, NextRequest, RecordHandles, RequestAddition, RequestVisitor};
 use base::{DiskFailed, Entry, FileName, Graph, NoMemory, Text};
 use outside::{Disk, StoreFault};
 use std::alloc::Global;
 use std::marker::Model;
-use store_journal::{Journal, Payloads, Ready};
+use store_journal::{Journal, Ready};
 use store_table::CutRequest;
 
 /// The store of requests on a disk. A record has the compiler's words, the file with its text, the built files that it depends on,
@@ -176,7 +176,7 @@ impl<'g> RequestStore<'g> {
             (D.failed_disk_calls disk.new) }
     {
         let journal = Journal::open_empty(alloc, disk, FORM, EARLIER_FORM)?;
-        let held = LoadedStore::of(alloc, Payloads::new(alloc))?;
+        let held = RequestVisitor::over(alloc, graph.as_slice()).into_loaded()?;
         looked_up(alloc, journal, held, graph)
     }
 
