@@ -13,24 +13,24 @@ use Rattle.run_tests.specs.Recording.{record_fault}
 abbrev with_disks : BuildFaultCounts → ℕ → BuildFaultCounts
 with_disks counts disks = record counts { disks = disks }
 
-noted : (T : Type 0) (failed : StoreFault) (now : BuildFaultCounts) (before later : ℕ) → StoreCounts {T = T} (Err failed) before later → CountsBy (Some (with_fault None (record_fault failed))) false (with_disks now before) (with_disks now later)
-noted T store.NoMemory now before later same = record {
+after_fault : (T : Type 0) (failed : StoreFault) (now : BuildFaultCounts) (before later : ℕ) → StoreCounts {T = T} (Err failed) before later → CountsBy (Some (with_fault None (record_fault failed))) false (with_disks now before) (with_disks now later)
+after_fault T store.NoMemory now before later same = record {
   none_fell = record { children = record { starts = omega arith; losses = omega arith }; disks = (let s : later ≡ before = same in omega arith) };
   explains = tt;
   start_first = tt;
   breaks = λ b. absurd (false≢true b);
 }
-noted T store.DiskFailed now before later counted = record {
+after_fault T store.DiskFailed now before later counted = record {
   none_fell = record { children = record { starts = omega arith; losses = omega arith }; disks = counted.later };
   explains = counted.rose;
   start_first = refl;
   breaks = λ b. absurd (false≢true b);
 }
 
--- no fault was noted before a record that failed
-pub counts_noted : (T : Type 0) (failed : StoreFault) (first now : BuildFaultCounts) (before later : ℕ) → CountsBy None false first (with_disks now before) → StoreCounts {T = T} (Err failed) before later
+-- the counts after a record that failed, where there was no fault before
+pub counts_after_fault : (T : Type 0) (failed : StoreFault) (first now : BuildFaultCounts) (before later : ℕ) → CountsBy None false first (with_disks now before) → StoreCounts {T = T} (Err failed) before later
     → CountsBy (Some (with_fault None (record_fault failed))) false first (with_disks now later)
-counts_noted T failed first now before later counts cause = subst (λ (start : BuildFaultCounts). CountsBy (Some (with_fault None (record_fault failed))) false start (with_disks now later)) counts.explains (noted T failed now before later cause)
+counts_after_fault T failed first now before later counts cause = subst (λ (start : BuildFaultCounts). CountsBy (Some (with_fault None (record_fault failed))) false start (with_disks now later)) counts.explains (after_fault T failed now before later cause)
 
 -- memory ran out before anything was done
 pub no_memory_counts : (first : BuildFaultCounts) → CountsBy (Some fault.NoMemory) false first first

@@ -6,7 +6,7 @@ ghost use Rattle.store.specs.Additions.{AddsRequest, IsCutFor};
 
 use store_codec::RequestRanges;
 use store_journal::Ready;
-use store_table::{CutRequest, HeldPayloads, LocatedTable, TextNumbers, put_lent, put_request};
+use store_table::{CutRequest, HeldPayloads, LocatedTable, TextNumbers, put_borrowed, put_request};
 
 /// A record: the position of its file in the graph that it was prepared for, its parts in its payload, and the numbers of its
 /// name and its texts.
@@ -69,7 +69,7 @@ pub fn put_held(
     ensures is { IsHeld held.new.segments held.new.payloads table.new }
 {
     match cut {
-        Some(cut) => put_lent(
+        Some(cut) => put_borrowed(
             table,
             held,
             segment.payload(),

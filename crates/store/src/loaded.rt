@@ -29,7 +29,7 @@ use std::alloc::Global;
 use std::marker::Model;
 use store_journal::{Payloads, Ready};
 use store_table::{
-    CutRequest, HeldPayloads, LocatedTable, is_borrowed_from, lent_cut, number_name, taken_up,
+    CutRequest, HeldPayloads, LocatedTable, borrowed_cut, is_borrowed_from, number_name, taken_up,
     text_at,
 };
 
@@ -300,7 +300,7 @@ impl<'g> LoadedStore<'g> {
         let refs = text_refs(&self.held, &self.table.texts, entry.text.bytes(), artefact);
         let AskedPayload { segment, draft } = asked_payload(alloc, entry, refs, deps, artefact)?;
         let number = refs.numbers.text;
-        let cut = lent_cut(
+        let cut = borrowed_cut(
             alloc,
             &self.held,
             segment.payload(),

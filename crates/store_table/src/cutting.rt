@@ -158,7 +158,7 @@ fn cut_request(
 
 /// The payload of a record without its text, which will have the number `number`, if the file of the number `file` has the same
 /// text and the same words.
-pub fn lent_cut(
+pub fn borrowed_cut(
     alloc: Global,
     held: &HeldPayloads<'_>,
     payload: &[u8],
@@ -253,7 +253,7 @@ fn put_cut_request(
 }
 
 /// Adds the payload of a record without its text, which a file lends, with what the record stands for. It takes no memory.
-pub fn put_lent(
+pub fn put_borrowed(
     table: &mut LocatedTable,
     held: &mut HeldPayloads<'_>,
     payload: &[u8],
@@ -311,7 +311,7 @@ fn take_cut(
     };
     held.reserve()?;
     table.reserve()?;
-    put_lent(table, held, payload, draft, name, numbers, cut);
+    put_borrowed(table, held, payload, draft, name, numbers, cut);
     Ok(true)
 }
 
@@ -338,7 +338,7 @@ fn take_slice_request(
     }
     let name = number_name(table, name)?;
     let number = table.texts.indices.len();
-    match lent_cut(alloc, held, payload, draft, name, number)? {
+    match borrowed_cut(alloc, held, payload, draft, name, number)? {
         Some(cut) => take_cut(table, set, held, payload, draft, name, cut),
         None => Ok(false),
     }

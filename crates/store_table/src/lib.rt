@@ -12,7 +12,7 @@ mod taking;
 mod texts;
 
 pub use checking::TextNumbers;
-pub use cutting::{CutRequest, lent_cut, put_lent, take_payload};
+pub use cutting::{CutRequest, borrowed_cut, put_borrowed, take_payload};
 pub use held::HeldPayloads;
 pub use products::ProductRow;
 pub use putting::put_request;

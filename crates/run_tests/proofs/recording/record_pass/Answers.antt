@@ -4,7 +4,7 @@ use Rattle.outside.specs.Counts.{StoreCounts}
 use Rattle.outside.specs.declared.records.StoreFault.{StoreFault}
 use Rattle.run_spec.specs.Faults.{CountsBy, with_fault}
 use Rattle.run_spec.specs.declared.fault.RunFault.{RunFault}
-use Rattle.run_tests.proofs.RecordCounts.{counts_noted}
+use Rattle.run_tests.proofs.RecordCounts.{counts_after_fault}
 use Rattle.run_tests.proofs.recording.record_pass.Goals as goal
 
 pub returns-in-Err-clause-in_step : goal.returns-in-Err-clause-in_step
@@ -15,4 +15,4 @@ returns-in-Err-clause-counts g c = λ first now counts.
     let cause = subst (λ (r : Result (Unit {0}) StoreFault). StoreCounts r (g.R.PassRecorder.failed_calls c.args.recorder.now) (g.R.PassRecorder.failed_calls c.record.new.self)) c.in-Err.is c.record.ensures.cause in
     subst (λ (o : Option RunFault). CountsBy o false first (record now { disks = g.R.PassRecorder.failed_calls c.record.new.self }))
     (sym (c.halt.ensures.first_fault ∙ ap (λ (o : Option RunFault). Some (with_fault o c.record_fault.result)) c.requires.unnoted ∙ ap (λ (fault : RunFault). Some (with_fault None fault)) c.record_fault.ensures))
-    (counts_noted (Unit {0}) c.in-Err.fault first now _ _ counts cause)
+    (counts_after_fault (Unit {0}) c.in-Err.fault first now _ _ counts cause)

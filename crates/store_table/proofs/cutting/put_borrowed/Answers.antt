@@ -11,7 +11,7 @@ use Rattle.store_table.proofs.CutTaken.{cut_drafted}
 use Rattle.store_table.proofs.Keeping.{keeps_more}
 use Rattle.store_table.proofs.Longer.{table_located_still, table_same_still}
 use Rattle.store_table.proofs.Takes.{table_more, took_payload, took_request}
-use Rattle.store_table.proofs.cutting.put_lent.Goals as goal
+use Rattle.store_table.proofs.cutting.put_borrowed.Goals as goal
 
 pub put_cut_request-requires-clause-table : goal.put_cut_request-requires-clause-table
 put_cut_request-requires-clause-table c =
