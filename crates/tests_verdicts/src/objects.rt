@@ -10,7 +10,7 @@ use base::{Event, Graph, NoMemory, Numbers, Positions, Text, TextList};
 use memory_outside::{MemDisk, ScriptProcs, can_answer};
 use outside::{Records, Side, StoreFault, write_durably};
 use run_spec::RunFault;
-use run_tests::run_tests;
+use run_tests::{NoRecorder, run_tests};
 use std::alloc::Global;
 use std::process::Abort;
 use std::test::Fail;
@@ -176,6 +176,7 @@ fn run_over<K: Records>(
     assert!(rt; limit <= 64);
     assert!(rt; runs.len() <= 65_536);
     assert!(rt; all_fit(runs));
+    let mut recorder = NoRecorder;
     run_tests(
         alloc,
         graph,
@@ -185,6 +186,7 @@ fn run_over<K: Records>(
         procs,
         limit,
         way.fail_fast,
+        &mut recorder,
     )
 }
 
