@@ -1,8 +1,8 @@
 #!/bin/sh
 # Documents are in plain English: a page never uses the phrases below, and no sentence has more than 35 words. Fenced blocks,
 # quotations, links and the pages made of comments in the sources do not count; code between backticks is one word. Comments of
-# crates, scripts, wrappers and benches have at most 50 such faults; indented lines in them do not count. Ends with 0, with 1 if
-# there are faults, and with 77 if python3 is missing.
+# crates, scripts, wrappers and benches have at most 50 such faults; indented lines in them do not count, nor folders that are
+# named `out`, which hold what is built. Ends with 0, with 1 if there are faults, and with 77 if python3 is missing.
 cd -- "${TOP:-$(dirname -- "$0")/..}" || exit 1
 . tests/support/needs.sh
 needs python3
@@ -66,7 +66,7 @@ def comments(path, text):
 
 def faults_of_comments():
     """The faults of all comments."""
-    for path in sorted(path for folder in FOLDERS for path in pathlib.Path(folder).rglob("*")):
+    for path in sorted(path for folder in FOLDERS for path in pathlib.Path(folder).rglob("*") if "out" not in path.parts):
         if path.suffix in ("", ".py", ".sh", *MARKS) and path.is_file() and "data" not in path.parts:
             for text in comments(path, path.read_text(errors="replace")):
                 for fault in faults(re.sub(r"^(?:  |\t).*$", "\n", text, flags=re.M)):
