@@ -237,3 +237,15 @@ full_folder() {
         ! is_full "$each" || { printf '%s\n' "$each"; return; }
     done
 }
+
+# Takes the lock of a path, which is open as this descriptor. Says so where the lock is another's, and then ends with 1 once it is
+# had; or what is done twice without the command flock.
+take_turn() { # descriptor, path, what is done twice, who is waited for
+    if ! command -v flock >/dev/null; then
+        say "the command flock is missing, so $3"
+    elif ! flock -n "$1"; then
+        say "waiting for $4"
+        flock "$1" || fail 126 "the lock $2 cannot be had"
+        return 1
+    fi
+}

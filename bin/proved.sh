@@ -20,12 +20,7 @@ prove() {
 }
 
 prove_alone() {
-    if ! command -v flock >/dev/null; then
-        say "the command flock is missing, so two proofs at once would do everything twice"
-    elif ! flock -n 8; then
-        say "waiting for another proof of the program"
-        flock 8 || fail 126 "the lock $out/prove.lock cannot be had"
-    fi
+    take_turn 8 "$out/prove.lock" "two proofs at once would do everything twice" "another proof of the program" || :
     name=$(name_of proved "$sources" "$version")
     is_whole "$name" || build_proved
     # the next start takes it

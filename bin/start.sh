@@ -84,14 +84,8 @@ update() {
 
 # Builds, while no other start does the same.
 build_alone() {
-    if ! command -v flock >/dev/null; then
-        say "the command flock is missing, so two first starts at once would build twice"
-    elif ! flock -n 9; then
-        say "waiting for another start, which is building the program"
-        flock 9 || fail 126 "the lock $out/lock cannot be had"
-        # (it may have built this one)
-        ! find_program || return 0
-    fi
+    # (where another start was waited for, it may have built this one)
+    take_turn 9 "$out/lock" "two first starts at once would build twice" "another start, which is building the program" || ! find_program || return 0
     read_part checked
     build_checked && return
     [ -z "$full" ] || fail 126 "the checked program was not built: there is no space left in $full"

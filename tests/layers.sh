@@ -1,7 +1,7 @@
 # The layers of docs/ARCHITECTURE.md hold. The first word of each crate's name is a layer, and crates.txt lists the crates in
 # the order of the layers. A crate, and its tests, uses only crates of earlier lines, in its own layer or a lower one. There are
-# at most 64 crates, 45 in the program, and 12 in the longest chain of the program. Then wrong lines are planted in copies of
-# crates.txt; each must be named. Prints what isn't so. Ends with 0, with 1 where something isn't, and with 77 where python3 is
+# at most 66 crates, 45 in the program, and 12 in the longest chain of the program. Two of the 66 are for the layer `session`,
+# whose texts and script share no code. Then wrong lines are planted in copies of crates.txt; each must be named. Prints what isn't so. Ends with 0, with 1 where something isn't, and with 77 where python3 is
 # missing.
 cd -- "${TOP:-$(dirname -- "$0")/..}" || exit 1
 . tests/support/needs.sh
@@ -9,7 +9,7 @@ needs python3
 exec python3 - <<'END'
 import pathlib, re, sys
 
-MOST_CRATES, MOST_IN_PROGRAM, MOST_IN_CHAIN = 64, 45, 12
+MOST_CRATES, MOST_IN_PROGRAM, MOST_IN_CHAIN = 66, 45, 12
 page = pathlib.Path("docs/ARCHITECTURE.md").read_text()
 table = re.search(r"^\| Layer \|.*?\n\n", page, re.M | re.S)
 layers = re.findall(r"^\| `(\w+)` \|", table[0], re.M) if table else []
@@ -67,7 +67,7 @@ cases = {
     "vhdl_lex uses vhdl_graph, which stands behind it": add("vhdl_lex", "vhdl_graph"),
     "the first word of build_more is no layer": lambda all: [*all, "build_more: base"],
     "store_more stands behind tests_more, whose layer is higher": lambda all: [*all, "tests_more: base", "store_more: base"],
-    "77 crates are more than 64": lambda all: [*all, *(f"tests_{at}: base" for at in range(77 - len(all)))],
+    "77 crates are more than 66": lambda all: [*all, *(f"tests_{at}: base" for at in range(77 - len(all)))],
 }
 wrong += [f"a planted fault is not named: {wanted}" for wanted, change in cases.items() if not planted(wanted, change)]
 print(*wrong, sep="\n", end="\n" if wrong else "")

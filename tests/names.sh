@@ -73,7 +73,7 @@ for crate, root in crates.items():
         text, names, modules = re.sub(r"//.*", "", path.read_text()), {}, set()
         use = r"ghost use Rattle\.(\w+)\.specs\.([\w.]+?)(?:\.\{([^}]*)\}| as (\w+));"
         for of, module, braces, alias in re.findall(use, text):
-            if of in crates and not module.startswith("declared"):
+            if of in crates and not module.startswith(("declared", "Types")):  # types
                 modules |= {alias} - {""}
                 names |= {item.split()[-1]: item.split()[0] for item in braces.split(",") if item.strip()}
         cited = [block(text, t.end() - 1) for t in re.finditer(r"^pub trait [^{]*\{", text, re.M)]

@@ -3,7 +3,7 @@
 # of the plain program that made them.
 . "$TOP/tests/support/needs.sh"
 needs python3
-PYTHONPATH=$TOP/tests/support exec python3 -B - "$TOP/crates/tests_project/src/random_projects.rt" <<'END'
+PYTHONPATH=$TOP/tests/support exec python3 -B - "$TOP/crates/tests_project/src/tests/random_projects.rt" <<'END'
 import re, sys
 
 import random_projects

@@ -2,7 +2,7 @@
 # The table of random sides that tests_store reads is that of the plain program that made it.
 . "$TOP/tests/support/needs.sh"
 needs python3
-PYTHONPATH=$TOP/tests/support exec python3 -B - "$TOP/crates/tests_store/src/random_sides.rt" <<'END'
+PYTHONPATH=$TOP/tests/support exec python3 -B - "$TOP/crates/tests_store/src/tests/random_sides.rt" <<'END'
 import re, sys
 
 import random_requests

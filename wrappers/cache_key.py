@@ -58,7 +58,7 @@ class CacheKey:
         self.text, self.paths, self.states = text, paths, states
 
     def stands(self):
-        """Whether all on which it rests is as it was."""
+        """Whether nothing on which it rests has changed."""
         try:
             return states_of(self.paths) == self.states
         except OSError:

@@ -122,7 +122,8 @@ while read -r when at <&3; do
     parts | sed -n "${at}p" >>seen
     same "killed $when command $at: its status" "$status" 137
     await ended
-    flock -n "$lock" true || { echo "killed $when command $at: somebody has the lock"; exit 1; }
+    # (a process that ends has no environment any more a moment before it gives its locks back)
+    await flock -n "$lock" true
     before=$(($(builds) + $(proofs)))
     next_program
     same "killed $when command $at: the next start" "$status $said" "0 // $turn

@@ -153,7 +153,7 @@ def cited(text, said, top, crates):
     """The definitions that clauses of a file name: by crate, module and name."""
     names, modules = {}, {}
     for of, module, braces, alias in re.findall(r"ghost use Rattle\.(\w+)\.specs\.([\w.]+?)(?:\.\{([^}]*)\}| as (\w+));", text):
-        if of in crates and not module.startswith("declared"):
+        if of in crates and not module.startswith(("declared", "Types")):  # types
             if alias:
                 modules[alias] = of, module
             names |= {item.split()[-1]: (of, module, item.split()[0]) for item in braces.split(",") if item.strip()}

@@ -21,7 +21,7 @@ def check(name, got, wanted):
 
 
 # Names: the rows of the program's own matcher are tried too, as both follow one page.
-with open(os.path.join(os.environ["TOP"], "crates/tests_vhdl/src/patterns.rt"), encoding="utf-8") as file:
+with open(os.path.join(os.environ["TOP"], "crates/tests_vhdl/src/tests/patterns.rt"), encoding="utf-8") as file:
     rows = re.search(r'static ROWS: &str = "\\\n(.*?)";', file.read(), re.S)[1].splitlines()
 assert len(rows) > 50, rows
 for row in [*(row.split(" ") for row in rows), ("", "", "1"), ("*", "", "1"), ("**", "", "1"), ("?", "", "0"), ("[!a]", "", "0"),

@@ -16,7 +16,8 @@ use Rattle.base_bytes.proofs.Many.{begins, goes_on, is_done, no_count, stops, wi
 abbrev pub words_at : List ℕ → List (List ℕ)
 words_at bytes = option_map_or (λ read. read.0) (counted_at text_at bytes) []
 
-many_length : {X : Type 0} (read : List ℕ → Option (X × List ℕ)) (n : ℕ) (bytes : List ℕ) (xs : List X) (left : List ℕ) → many_at read n bytes ≡ Some (xs, left) → length xs ≡ n
+-- as many are read as were asked for
+pub many_length : {X : Type 0} (read : List ℕ → Option (X × List ℕ)) (n : ℕ) (bytes : List ℕ) (xs : List X) (left : List ℕ) → many_at read n bytes ≡ Some (xs, left) → length xs ≡ n
 unfolding many_at
 many_length {X} read zero bytes xs left e = ap (λ (y : List X × List ℕ). length y.0) (sym (same_Some ([], bytes) (xs, left) e))
 many_length {X} read (suc n) bytes xs left e =

@@ -11,11 +11,9 @@ use testbench_runs::TestRun;
 fn bench_name(alloc: Global, run: &TestRun) -> Result<Vec<u8>, NoMemory>
     ensures { IfOk result (λ name. name.items ≡ name_of_bench run.now) }
 {
-    let library = run.library.bytes();
-    let bench = run.bench.bytes();
-    let mut name = Vec::from_slice(alloc, library)?;
+    let mut name = Vec::from_slice(alloc, run.library.bytes())?;
     name.push(b'.')?;
-    name.extend_from_slice(bench)?;
+    name.extend_from_slice(run.bench.bytes())?;
     Ok(name)
 }
 
@@ -23,11 +21,7 @@ fn bench_name(alloc: Global, run: &TestRun) -> Result<Vec<u8>, NoMemory>
 fn case_name(alloc: Global, run: &TestRun, case: &[u8]) -> Result<Vec<u8>, NoMemory>
     ensures { IfOk result (λ name. name.items ≡ name_of_case run.now case.now) }
 {
-    let library = run.library.bytes();
-    let bench = run.bench.bytes();
-    let mut name = Vec::from_slice(alloc, library)?;
-    name.push(b'.')?;
-    name.extend_from_slice(bench)?;
+    let mut name = bench_name(alloc, run)?;
     name.push(b'.')?;
     name.extend_from_slice(case)?;
     Ok(name)

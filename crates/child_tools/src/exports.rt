@@ -22,21 +22,17 @@ use vhdl_units::UnitKey;
 fn exported_by(line: &[u8]) -> Option<&[u8]>
     ensures { option_map (λ name. name.now) result ≡ exported_by line.now }
 {
-    match after_word(b"unit entity ", line) {
-        Some(name) => return Some(name),
-        None => {}
+    if let Some(name) = after_word(b"unit entity ", line) {
+        return Some(name);
     }
-    match after_word(b"unit configuration ", line) {
-        Some(name) => return Some(name),
-        None => {}
+    if let Some(name) = after_word(b"unit configuration ", line) {
+        return Some(name);
     }
-    match after_word(b"unit package ", line) {
-        Some(name) => return Some(name),
-        None => {}
+    if let Some(name) = after_word(b"unit package ", line) {
+        return Some(name);
     }
-    match after_word(b"unit instance ", line) {
-        Some(name) => return Some(name),
-        None => {}
+    if let Some(name) = after_word(b"unit instance ", line) {
+        return Some(name);
     }
     after_word(b"unit context ", line)
 }

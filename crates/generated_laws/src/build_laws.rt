@@ -1,9 +1,7 @@
 //! Laws of the graph of the generated project and of its clean builds, as functions with empty bodies.
 
 ghost use Rattle.std.specs.Prelude.{◌≡◌, ◌≢◌, ℕ, ◌+◌, ◌<◌, ◌≤◌, Bool, true, false, List, length, map, Contains, slice_get, slice_index, Some};
-ghost use Rattle.base.specs.declared.child.Exit.{Exit};
-ghost use Rattle.base.specs.declared.child.Request.{Request};
-ghost use Rattle.base.specs.declared.graph.Entry.{Entry};
+ghost use Rattle.run_spec.specs.Types.{Entry, Request, Exit};
 ghost use Rattle.base.specs.Graphs.{IsGraph};
 ghost use Rattle.run_tests.specs.Libraries.{libraries};
 ghost use Rattle.generated_project.specs.Files.{unedited};

@@ -1,9 +1,7 @@
 //! Laws of the counts in the answer for the generated project, as functions with empty bodies.
 
 ghost use Rattle.std.specs.Prelude.{◌≡◌, ℕ, true, List, length, Ok};
-ghost use Rattle.base.specs.declared.child.Request.{Request};
-ghost use Rattle.base.specs.declared.child.Exit.{Exit};
-ghost use Rattle.base.specs.declared.child.Event.{Event};
+ghost use Rattle.run_spec.specs.Types.{Request, Exit, Event};
 ghost use Rattle.run_spec.specs.JournalParts.{compile_part};
 ghost use Rattle.run_spec.specs.Statuses.{statuses_of};
 ghost use Rattle.run_tests.specs.Libraries.{libraries};

@@ -1,5 +1,5 @@
 -- The lemmas.
-mod ListingLemmas
+pub mod ListingLemmas
 mod ChildLogLemmas
 mod TableLemmas
 mod LogLemmas

@@ -1,5 +1,5 @@
 -- What the program's listing is: sorted paths without repeats are the rising list of the same paths.
-use Rattle.std.proofs.Common.{ℕ, ◌≡◌, ◌<◌, ◌≤◌, true, List, [], ◌∷◌, length, filter, nat_eq, sym, refl}
+use Rattle.std.proofs.Common.{ℕ, ◌≡◌, ◌<◌, ◌≤◌, true, false, cond, List, [], ◌∷◌, length, filter, nat_eq, sym, refl}
 use Rattle.std.specs.Prelude.{Contains, IsPermutation, IsSorted}
 use Rattle.std.specs.List.{AllByRecursion, dedup}
 use Rattle.std.specs.Ordering.{nat_cmp}
@@ -15,8 +15,8 @@ use Rattle.base.specs.declared.file.NamedText.{NamedText}
 use Rattle.base.specs.declared.limits.TheConstants.{PATH_LIMIT}
 use Rattle.outside.specs.Trees.{IsName, is_listed, names_end}
 use Rattle.outside.specs.declared.tree.NamesEnd.TheVariants as names
-use Rattle.memory_outside.specs.Trees.{IsPath, HavePaths, paths_of, rising_paths, listed_of}
-use Rattle.memory_outside.specs.TreeLaws.{same_sorted, sorted_rising, from_rising, to_rising, filter_from}
+use Rattle.memory_outside.specs.Trees.{IsPath, HavePaths, paths_of, rising_paths}
+use Rattle.memory_outside.specs.TreeLaws.{same_sorted, sorted_rising, from_rising, to_rising}
 
 -- the sorted paths without repeats
 pub listing_is : (paths sorted : List (List ℕ)) → IsPermutation paths sorted → IsSorted (slice_cmp nat_cmp) sorted → dedup (pointwise nat_eq) sorted ≡ rising_paths paths
@@ -26,25 +26,28 @@ listing_is paths sorted moved in_order =
     (λ path there. to_rising paths path (Contains-permutation sorted paths path (IsPermutation-sym paths sorted moved) (Contains-from_dedup (pointwise nat_eq) sorted path there)))
     (λ path there. Contains-dedup nat_list_eq_equiv (λ x y e. (bytes_eq-Decides x y).0 e) sorted path (Contains-permutation paths sorted path moved (from_rising paths path there)))
 
--- each path of the files is one
-path_is : (files : List NamedText) → HavePaths files → AllByRecursion IsPath (paths_of files)
-path_is [] paths = tt
-path_is (file ∷ rest) paths = (paths.0, path_is rest paths.1)
-
 -- a listed path is a name
 listed_name : (path : List ℕ) → IsPath path → is_listed path ≡ true → IsName path
 listed_name path is listed =
     record { some = is.some; short = leb-true (length path) PATH_LIMIT (and_parts _ _ (and_parts _ _ listed).0).0; text = is.text }
 
-name_of : (files : List NamedText) → HavePaths files → (path : List ℕ) → Contains (listed_of files) path → IsName path
-name_of files paths path there =
-    let both : Contains (paths_of files) path × (is_listed path ≡ true) = filter_from is_listed (paths_of files) path (from_rising (filter is_listed (paths_of files)) path there) in
-    listed_name path (All-contains IsPath (paths_of files) path (All-from_recursion IsPath (paths_of files) (path_is files paths)) both.0) both.1
+-- each listed path of the files is a name
+pub each_name : (files : List NamedText) → HavePaths files → AllByRecursion IsName (filter is_listed (paths_of files))
+each_name [] paths = tt
+each_name (file ∷ rest) paths =
+    let more = each_name rest paths.1 in
+    (elim (is_listed file.path) as (λ b. is_listed file.path ≡ b → AllByRecursion IsName (cond b (file.path ∷ filter is_listed (paths_of rest)) (filter is_listed (paths_of rest)))) [
+      | true ↦ λ is. (listed_name file.path paths.0 is, more)
+      | false ↦ λ is. more
+    ]) refl
 
--- each path of the list is a name
-pub each_name : (files : List NamedText) → HavePaths files → AllByRecursion IsName (listed_of files)
-each_name files paths =
-    recursion_from_All IsName (listed_of files) (All-weaker (Contains (listed_of files)) IsName (name_of files paths) (listed_of files) (All-contains_itself (listed_of files)))
+-- names in rising order are names
+pub names_rise : (paths : List (List ℕ)) → AllByRecursion IsName paths → AllByRecursion IsName (rising_paths paths)
+names_rise paths all =
+    recursion_from_All IsName (rising_paths paths)
+    (All-weaker (Contains (rising_paths paths)) IsName
+    (λ path there. All-contains IsName paths path (All-from_recursion IsName paths all) (from_rising paths path there))
+    (rising_paths paths) (All-contains_itself (rising_paths paths)))
 
 -- the answer to a request for at most `limit` names: all names, or `TooMany` if there are more
 pub all_names : (paths : List (List ℕ)) (limit : ℕ) → length paths ≤ limit → names.Got paths ≡ names_end paths limit

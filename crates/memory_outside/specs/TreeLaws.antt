@@ -49,20 +49,20 @@ only_in : (x p : Path) → Contains (x ∷ []) p → x ≡ p
 only_in x p there = All-contains (λ y. x ≡ y) (x ∷ []) p (All-from_recursion (λ y. x ≡ y) (x ∷ []) (refl, tt)) there
 
 -- no path is in no list
-none_in : (p : Path) → Contains [] p → ⊥
+pub none_in : (p : Path) → Contains [] p → ⊥
 none_in p there = let below = there.1 in omega arith
 
-first_in : (x : Path) (xs : List Path) → Contains (x ∷ xs) x
+pub first_in : (x : Path) (xs : List Path) → Contains (x ∷ xs) x
 first_in x xs = (0, omega arith, refl)
 
-later_in : (x : Path) (xs : List Path) (p : Path) → Contains xs p → Contains (x ∷ xs) p
+pub later_in : (x : Path) (xs : List Path) (p : Path) → Contains xs p → Contains (x ∷ xs) p
 later_in x xs p there = Contains-append_right (x ∷ []) xs p there
 
 first_or_later : (x : Path) (xs : List Path) (p : Path) → Contains (x ∷ []) p ⊎ Contains xs p → (x ≡ p) ⊎ Contains xs p
 first_or_later x xs p (inl here) = inl (only_in x p here)
 first_or_later x xs p (inr later) = inr later
 
-in_cons : (x : Path) (xs : List Path) (p : Path) → Contains (x ∷ xs) p → (x ≡ p) ⊎ Contains xs p
+pub in_cons : (x : Path) (xs : List Path) (p : Path) → Contains (x ∷ xs) p → (x ≡ p) ⊎ Contains xs p
 in_cons x xs p there = first_or_later x xs p (Contains-append_cases (x ∷ []) xs p there)
 
 -- what is in the rest of a sorted list is greater than its first
@@ -111,7 +111,7 @@ all_inserted P (x ∷ xs) k all here =
     ]
 
 -- a path put in at its index leaves a sorted list sorted
-sorted_inserted : (xs : List Path) (k : Path) → Sorted xs → Sorted (insert_key (slice_cmp nat_cmp) xs k)
+pub sorted_inserted : (xs : List Path) (k : Path) → Sorted xs → Sorted (insert_key (slice_cmp nat_cmp) xs k)
 unfolding IsStrictlySortedBy
 sorted_inserted [] k sorted = (tt, tt)
 sorted_inserted (x ∷ xs) k sorted =
@@ -122,7 +122,7 @@ sorted_inserted (x ∷ xs) k sorted =
     ]) refl
 
 -- paths that compare as equal are the same
-same_path : (x y : Path) → cmp x y ≡ Equal → x ≡ y
+pub same_path : (x y : Path) → cmp x y ≡ Equal → x ≡ y
 same_path x y tied = (bytes_eq-Decides x y).0 (sym (is_eq-slice_cmp x y) ∙ rw tied refl)
 
 -- the path is in

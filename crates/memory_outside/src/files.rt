@@ -25,8 +25,8 @@ pub fn read_file(
     Ok(ReadEnd::Absent)
 }
 
-/// A text, up to a limit.
-fn read_text(alloc: Global, text: &Text, limit: u64) -> Result<ReadEnd, NoMemory>
+/// What is read of a file that has this text.
+pub fn read_text(alloc: Global, text: &Text, limit: u64) -> Result<ReadEnd, NoMemory>
     ensures size { IfOk result (FitsReadLimit limit) }
     ensures bytes { IfOk result (λ end. end ≡ read_end (Some text.now) limit) }
 {

@@ -28,6 +28,8 @@ mod tickets;
 pub use answer::{Answer, AnswerList};
 pub use child_log::{ChildLog, EventList};
 pub use conditions::{can_answer, have_paths};
+pub use files::read_text;
+pub use listing::{is_listed, rising_names};
 pub use mem_disk::MemDisk;
 pub use mem_sink::MemSink;
 pub use mem_source::MemSource;

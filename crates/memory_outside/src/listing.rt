@@ -1,12 +1,12 @@
 //! What a tree over memory lists.
 ghost use Rattle.std.specs.Prelude.{◌≡◌, ◌==◌, nat_eq, IfOk, filter, IsPermutation, IsSorted};
-ghost use Rattle.std.specs.List.{dedup, list_all, slice_split};
+ghost use Rattle.std.specs.List.{AllByRecursion, dedup, list_all, slice_split};
 ghost use Rattle.std.specs.Ordering.{nat_cmp};
 ghost use Rattle.std.specs.Cmp.Lexicographic.{pointwise, slice_cmp};
-ghost use Rattle.outside.specs.Trees.{IsListing, names_end, is_listed as listed, is_shown};
-ghost use Rattle.memory_outside.specs.Trees.{HavePaths, paths_of, listed_of};
+ghost use Rattle.outside.specs.Trees.{IsListing, IsName, names_end, is_listed as listed, is_shown};
+ghost use Rattle.memory_outside.specs.Trees.{HavePaths, paths_of, listed_of, rising_paths};
 
-use base::{Items, NamedText, NoMemory, PATH_LIMIT, Text};
+use base::{Items, NamedText, NoMemory, PATH_LIMIT, Text, TextList};
 use outside::NamesEnd;
 use std::alloc::Global;
 
@@ -16,13 +16,23 @@ pub fn listing(alloc: Global, files: &[NamedText], limit: u64) -> Result<NamesEn
     ensures form { IfOk result (IsListing limit) }
     ensures names { IfOk result (λ end. end ≡ names_end (listed_of files.now) limit) }
 {
-    let mut paths = listed_paths(alloc, files)?;
-    sort_paths(&mut paths);
-    drop_repeats(&mut paths);
-    if paths.len() as u64 > limit {
-        return Ok(NamesEnd::TooMany);
+    let paths = listed_paths(alloc, files)?;
+    Ok(rising_names(Items::from_vec(paths), limit))
+}
+
+/// The listing of these paths: each once, in rising order.
+pub fn rising_names(paths: TextList, limit: u64) -> NamesEnd
+    requires { AllByRecursion IsName paths }
+    ensures form { IsListing limit result }
+    ensures names { result ≡ names_end (rising_paths paths) limit }
+{
+    let mut all = paths.into_vec();
+    sort_paths(&mut all);
+    drop_repeats(&mut all);
+    if all.len() as u64 > limit {
+        return NamesEnd::TooMany;
     }
-    Ok(NamesEnd::Got(Items::from_vec(paths)))
+    NamesEnd::Got(Items::from_vec(all))
 }
 
 /// Copies of the paths that are listed, in order of the files.
@@ -38,8 +48,8 @@ fn listed_paths(alloc: Global, files: &[NamedText]) -> Result<Vec<Text>, NoMemor
     Ok(paths)
 }
 
-/// Whether a path is listed.
-fn is_listed(path: &[u8]) -> bool
+/// Whether a tree lists a file of this path.
+pub fn is_listed(path: &[u8]) -> bool
     ensures { result ≡ listed path.now }
 {
     path.len() <= PATH_LIMIT && !path.starts_with(b"vunit_out/") && has_no_dot(path)

@@ -30,13 +30,13 @@ none_so_far left edges waiting all is =
       users = λ dep file low lt waits. is.users dep file (omega (arith, count)) (omega (arith, count)) (one file lt) ∙ ap (times dep) (sym (first file));
     }
 
-none_here : (deps : List ℕ) (file : ℕ) → cond {A = List ℕ} (nat_lt file file) deps [] ≡ []
+pub none_here : (deps : List ℕ) (file : ℕ) → cond {A = List ℕ} (nat_lt file file) deps [] ≡ []
 none_here deps file = cond-false (nat_lt file file) deps [] (le-ltb file file (omega arith))
 
-one_here : (deps : List ℕ) (file : ℕ) → cond {A = List ℕ} (nat_lt file (file + 1)) deps [] ≡ deps
+pub one_here : (deps : List ℕ) (file : ℕ) → cond {A = List ℕ} (nat_lt file (file + 1)) deps [] ≡ deps
 one_here deps file = cond-true (nat_lt file (file + 1)) deps [] (lt-ltb file (file + 1) (omega arith))
 
-others_same : (deps : List ℕ) (file k : ℕ) → k ≢ file → cond {A = List ℕ} (nat_lt k (file + 1)) deps [] ≡ cond (nat_lt k file) deps []
+pub others_same : (deps : List ℕ) (file k : ℕ) → k ≢ file → cond {A = List ℕ} (nat_lt k (file + 1)) deps [] ≡ cond (nat_lt k file) deps []
 others_same deps file k ne = elim (cases_lt k file) [
   | inl l ↦ cond-true (nat_lt k (file + 1)) deps [] (lt-ltb k (file + 1) (omega arith)) ∙ sym (cond-true (nat_lt k file) deps [] (lt-ltb k file l))
   | inr l ↦ cond-false (nat_lt k (file + 1)) deps [] (le-ltb k (file + 1) (omega (arith, l, ne))) ∙ sym (cond-false (nat_lt k file) deps [] (le-ltb k file l))

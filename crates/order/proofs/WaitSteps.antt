@@ -53,11 +53,11 @@ waits_depends old new file missing deps lt many w m u count before after waits d
   ];
 }
 
-and_here : (a e : Bool) → e ≡ true → (a && not e) ≡ false
+pub and_here : (a e : Bool) → e ≡ true → (a && not e) ≡ false
 and_here true e is = ap not is
 and_here false e is = refl
 
-and_other : (a e : Bool) → e ≡ false → (a && not e) ≡ a
+pub and_other : (a e : Bool) → e ≡ false → (a && not e) ≡ a
 and_other true e fails = ap not fails
 and_other false e fails = refl
 

@@ -9,12 +9,13 @@ use Rattle.std.proofs.lemmas.Option.{get_or_from_slice_get, slice_get_within}
 use Rattle.base.specs.Bytes.{number_bytes}
 use Rattle.base.specs.declared.file.FileName.{FileName}
 use Rattle.base.specs.declared.graph.BuiltFile.{BuiltFile}
+use Rattle.base.specs.declared.limits.TheConstants.{FILE_LIMIT}
 use Rattle.base_collections.specs.Numbers.{NumbersBelow}
 use Rattle.store_codec.specs.Compaction.{compacted_ref, with_compacted_text}
 use Rattle.store_table.specs.NumberSets.{AreNumbers}
 use Rattle.store_table.specs.Located.{located_texts, no_row, row_product, row_products}
 use Rattle.store_table.specs.declared.products.ProductRow.{ProductRow}
-use Rattle.passes_codec.specs.Compaction.{spelled_files}
+use Rattle.passes_codec.specs.Compaction.{FitsBuilt, spelled_files}
 use Rattle.passes_codec.specs.Forms.{FileDraft, file_bytes, files_bytes, list_ref_bytes}
 use Rattle.passes_codec.specs.Forms.ListRef.{NewList}
 use Rattle.passes_codec.specs.PassTables.{PassTable, with_list_texts}
@@ -95,10 +96,21 @@ module _ (names : List FileName) (texts : List (List ℕ)) (rows : List ProductR
       ∙ ap (λ (b : List BuiltFile). old ++ (1 ∷ (number_bytes (length (spelled_files now b)) ++ flat_map file_bytes (spelled_files now b)))) (sym is)
 
 -- a list of a table is that of its rows, and within the limits
-pub listed_row : (segments : List (List ℕ)) (table : LocatedPasses) (list : ℕ) (row : ListRow) → ArePassesHeld segments table → slice_get table.lists.keys list ≡ Some row → (get_or (located_passes segments table).lists list [] ≡ row_products table.names.keys (located_texts segments table.texts) row.files) × FitsList (row_products table.names.keys (located_texts segments table.texts) row.files)
+listed_row : (segments : List (List ℕ)) (table : LocatedPasses) (list : ℕ) (row : ListRow) → ArePassesHeld segments table → slice_get table.lists.keys list ≡ Some row → (get_or (located_passes segments table).lists list [] ≡ row_products table.names.keys (located_texts segments table.texts) row.files) × FitsList (row_products table.names.keys (located_texts segments table.texts) row.files)
 listed_row segments table list row held is =
     let f : ListRow → List BuiltFile = listed_files table.names.keys (located_texts segments table.texts) in
     let low : list < length table.lists.keys = slice_get_within table.lists.keys list row is in
     let here : get_or (map f table.lists.keys) list [] ≡ f row = get_or-map f table.lists.keys list row [] low ∙ ap f (get_or_from_slice_get table.lists.keys list row row is) in
     let fit : All FitsList (located_passes segments table).lists = subst (λ (t : PassTable). All FitsList t.lists) (sym held.is) (all_lists_fit segments) in
     (here, subst FitsList here (fit list [] (omega (arith, low, length-map table.lists.keys f))))
+
+-- the rows of a list as a loop has them
+pub listed_rows : (segments : List (List ℕ)) (table : LocatedPasses) (list : ℕ) (row : ListRow) (rows : List ProductRow) → ArePassesHeld segments table → slice_get table.lists.keys list ≡ Some row → rows ≡ row.files → (get_or (located_passes segments table).lists list [] ≡ row_products table.names.keys (located_texts segments table.texts) rows) × FitsList (row_products table.names.keys (located_texts segments table.texts) rows)
+listed_rows segments table list row rows held is same = subst (λ (rs : List ProductRow). (get_or (located_passes segments table).lists list [] ≡ row_products table.names.keys (located_texts segments table.texts) rs) × FitsList (row_products table.names.keys (located_texts segments table.texts) rs)) (sym same) (listed_row segments table list row held is)
+
+-- there are few, and each is within the limits
+pub few_rows : (names : List FileName) (texts : List (List ℕ)) (rows : List ProductRow) → FitsList (row_products names texts rows) → length rows ≤ FILE_LIMIT
+few_rows names texts rows fits = omega (arith, fits.0, length-map rows (row_product names texts))
+
+pub fits_at : (names : List FileName) (texts : List (List ℕ)) (rows : List ProductRow) (index : ℕ) → FitsList (row_products names texts rows) → index < length rows → FitsBuilt (row_product names texts (get_or rows index no_row))
+fits_at names texts rows index fits low = subst FitsBuilt (get_or-map (row_product names texts) rows index no_row (row_product names texts no_row) low) (fits.1 index (row_product names texts no_row) (omega (arith, low, length-map rows (row_product names texts))))

@@ -8,9 +8,13 @@ use Rattle.std.proofs.lemmas.Bool.Decides.{Decides-like, Decides-and}
 use Rattle.std.proofs.lemmas.List.{get_or-map, length-map}
 use Rattle.std.proofs.lemmas.Option.{slice_get-get_or}
 use Rattle.std.proofs.lemmas.Slice.Eq.{bytes_eq-Decides}
+use Rattle.base.specs.declared.graph.BuiltFile.{BuiltFile}
 use Rattle.base_collections.specs.Indexes.{IsLastWith}
 use Rattle.testbench_runs.specs.declared.runs.TestRun.{TestRun}
 use Rattle.passes_spec.specs.Passes.{Pass, is_of_tests, last_pass}
+use Rattle.passes_table.specs.declared.table.LocatedPasses.{LocatedPasses}
+use Rattle.passes_table.specs.declared.table.PassRow.{PassRow}
+use Rattle.passes_table.specs.Located.{located_passes, row_fingerprint, row_pass}
 use Rattle.passes_table.specs.Fingerprints.{tests_fingerprint, with_text_fingerprint, with_text_fingerprints}
 use Rattle.passes_table.specs.States.{HasTests, IsLastRow}
 
@@ -128,3 +132,46 @@ module _ (run : TestRun) (simulator : List (List ℕ)) where
 pub fingerprints_of : {X : Type 0} (f : X → Pass) (rows : List X) → map (λ row. tests_fingerprint (f row).run (f row).simulator) rows ≡ map (λ pass. tests_fingerprint pass.run pass.simulator) (map f rows)
 fingerprints_of f [] = refl
 fingerprints_of f (row ∷ rows) = ap (λ (ms : List ℕ). tests_fingerprint (f row).run (f row).simulator ∷ ms) (fingerprints_of f rows)
+
+-- ## The search over the rows of a table
+
+module _ (segments : List (List ℕ)) (table : LocatedPasses) (latest : table.latest.fingerprints ≡ map (row_fingerprint segments) table.rows.items) (run : TestRun) (simulator : List (List ℕ)) where
+  abbrev pub lists_of : List (List BuiltFile)
+  lists_of = (located_passes segments table).lists
+
+  abbrev pub passes_of : List Pass
+  passes_of = (located_passes segments table).passes
+
+  abbrev IsUp : Option ℕ → Type 0
+  IsUp candidate = IsUpTo run simulator passes_of table.latest.fingerprints candidate
+
+  fingerprinted_of : table.latest.fingerprints ≡ map (λ pass. tests_fingerprint pass.run pass.simulator) passes_of
+  fingerprinted_of = latest ∙ fingerprints_of (row_pass segments lists_of) table.rows.items
+
+  pub row_low : (number : ℕ) → IsUp (Some number) → number < length passes_of
+  row_low number up = up_low run simulator passes_of table.latest.fingerprints fingerprinted_of number up
+
+  row_at : (number : ℕ) (row : PassRow) → IsUp (Some number) → row ≡ get_or table.rows.items number row → get_or passes_of number no_pass ≡ row_pass segments lists_of row
+  row_at number row up here = get_or-map (row_pass segments lists_of) table.rows.items number row no_pass (omega (arith, row_low number up, length-map table.rows.items (row_pass segments lists_of))) ∙ ap (row_pass segments lists_of) (sym here)
+
+  -- without a candidate no pass is of the tests
+  pub no_row : IsUp None → (k : ℕ) → k < length passes_of → is_of_tests run simulator (get_or passes_of k no_pass) ≡ false
+  no_row up = none_at run simulator passes_of table.latest.fingerprints fingerprinted_of up
+
+  pub no_last : IsUp None → last_pass run simulator passes_of ≡ None
+  no_last up = up_none run simulator passes_of table.latest.fingerprints fingerprinted_of up
+
+  -- no pass after the candidate is of the tests
+  pub after_row : (number : ℕ) → IsUp (Some number) → (k : ℕ) → number < k → k < length passes_of → is_of_tests run simulator (get_or passes_of k no_pass) ≡ false
+  after_row number up = after run simulator passes_of table.latest.fingerprints fingerprinted_of number up
+
+  -- the row of the candidate is of the tests
+  pub row_found : (number : ℕ) (row : PassRow) → IsUp (Some number) → row ≡ get_or table.rows.items number row → HasTests run simulator (row_pass segments lists_of row) → IsLastRow passes_of run simulator (Some number)
+  row_found number row up here has = up_found run simulator passes_of table.latest.fingerprints fingerprinted_of number up (subst (HasTests run simulator) (sym (row_at number row up here)) has)
+
+  pub row_tested : (number : ℕ) (row : PassRow) → IsUp (Some number) → row ≡ get_or table.rows.items number row → HasTests run simulator (row_pass segments lists_of row) → is_of_tests run simulator (get_or passes_of number no_pass) ≡ true
+  row_tested number row up here has = (of_tests-Decides run simulator (get_or passes_of number no_pass)).1 (subst (HasTests run simulator) (sym (row_at number row up here)) has)
+
+  -- it is not, and the search goes on
+  pub row_passed : (number : ℕ) (row : PassRow) (next : Option ℕ) → IsUp (Some number) → row ≡ get_or table.rows.items number row → (¬ HasTests run simulator (row_pass segments lists_of row)) → IsLastWith table.latest.fingerprints (get_or table.latest.fingerprints number 0) number next → IsUp next
+  row_passed number row next up here differ last = up_further run simulator passes_of table.latest.fingerprints fingerprinted_of number next up (λ is. differ (subst (HasTests run simulator) (row_at number row up here) is)) last

@@ -46,13 +46,17 @@ module _ (payloads payloads' : List (List ℕ)) (table : LocatedPasses) (q : Kee
     latest = are.latest ∙ sym (fingerprints_still payloads payloads' q table.lists.keys table.rows.items are.rows);
   }
 
-  pub passes_same_still : located_passes payloads' table ≡ located_passes payloads table
+  passes_same_still : located_passes payloads' table ≡ located_passes payloads table
   passes_same_still =
       let texts : List (List ℕ) = located_texts payloads table.texts in
       let built : List (List BuiltFile) = map (listed_files table.names.keys texts) table.lists.keys in
       ap (λ (ts : List (List ℕ)). passes_by payloads' table.names.keys ts table.lists.keys table.rows.items) texts_same
       ∙ ap (λ (ps : List Pass). record { texts = located_texts payloads table.texts; lists = map (listed_files table.names.keys (located_texts payloads table.texts)) table.lists.keys; passes = ps })
       (rows_still payloads payloads' q table.lists.keys built built table.rows.items (keeps_self built) (length-map table.lists.keys (listed_files table.names.keys texts)) are.rows)
+
+-- with more payloads, what was located is still the table of the others
+pub there_still : (payloads payloads' before : List (List ℕ)) (table : LocatedPasses) → Keeps payloads payloads' → ArePassesLocated payloads table → payloads ≡ before → located_passes payloads table ≡ pass_table_of payloads → located_passes payloads' table ≡ pass_table_of before
+there_still payloads payloads' before table q are same is = passes_same_still payloads payloads' table q are ∙ is ∙ ap pass_table_of same
 
 -- the last of payloads
 pub last_payload : (payloads payloads' : List (List ℕ)) (payload : List ℕ) (at : ℕ) → payloads' ≡ payloads ++ payload ∷ [] → at ≡ length payloads → nth_payload payloads' at ≡ payload

@@ -4,7 +4,7 @@ use Rattle.std.specs.Prelude.{All, sum_by}
 use Rattle.std.specs.List.{flat_map, position}
 use Rattle.std.specs.Str.{bytes_eq}
 use Rattle.std.proofs.lemmas.List.Elements.{All-head, All-tail}
-use Rattle.std.proofs.lemmas.List.Sums.{get_or-le-sum_by, sum_by-cons, sum_by-le}
+use Rattle.std.proofs.lemmas.List.Sums.{sum_by-cons, sum_by-le}
 use Rattle.base.specs.declared.file.FileName.{FileName}
 use Rattle.base.specs.declared.graph.BuiltFile.{BuiltFile}
 use Rattle.base.specs.Bytes.{number_bytes, text_bytes}
@@ -21,12 +21,13 @@ use Rattle.testbench_runs.specs.declared.runs.TestRun.{TestRun}
 use Rattle.testbench_runs.specs.declared.ends.TheConstants.{SHOWN_LIMIT}
 use Rattle.testbench_runs.specs.BenchJobs.{texts_bytes}
 use Rattle.testbench_runs.specs.Runs.{FitsRun}
-use Rattle.passes_codec.specs.Forms.{FileDraft, HasFileSpelling, HasListSpelling, HasPassSpelling, HasRunSpelling, ListRef, file_bytes, files_bytes, flag_byte, list_ref_bytes, pass_bytes, run_bytes}
+use Rattle.passes_codec.specs.Forms.{FileDraft, HasFileSpelling, HasListSpelling, HasPassSpelling, ListRef, file_bytes, files_bytes, flag_byte, list_ref_bytes, pass_bytes, run_bytes}
 use Rattle.passes_codec.specs.Forms.ListRef.{KnownList, NewList}
 use Rattle.passes_table.specs.declared.writing.TheConstants.{FILE_SIZE, HEAD_SIZE}
 use Rattle.passes_spec.specs.Passes.{Pass}
 use Rattle.passes_codec.specs.Compaction.{FitsBuilt, FitsPass, list_or, spelled_files, spelled_pass}
 use Rattle.passes_codec.specs.PassTables.{PassTable, is_same_list}
+use Rattle.passes_codec.proofs.SpelledPasses.{run_spelled}
 use Rattle.passes_table.specs.Pending.{known_after, row_drafts, row_ref}
 
 texts_size : (texts : List (List ℕ)) → length (flat_map text_bytes texts) ≡ sum_by (λ text. length text) texts + 4 * length texts
@@ -179,16 +180,6 @@ spelled_small table pass fits = by (position (λ other. is_same_list other pass.
     by (Some number) = known_small pass.run pass.simulator number pass.output fits.run fits.simulator fits.output
 
 -- ## What can be spelled
-
-run_spelled : (run : TestRun) → FitsRun run → HasRunSpelling run
-run_spelled run fits = record {
-  library = omega (arith, fits.library);
-  bench = omega (arith, fits.bench);
-  architecture = omega (arith, fits.architecture);
-  path = omega (arith, fits.path);
-  few = omega (arith, fits.few);
-  cases = λ k d l. omega (arith, get_or-le-sum_by (λ (name : List ℕ). length name) run.cases k d l, fits.cases);
-}
 
 pub pass_spelled : (run : TestRun) (simulator : List (List ℕ)) (list : ListRef) (output : List ℕ) → FitsRun run → FitsCommand simulator → HasListSpelling list → length output ≤ SHOWN_LIMIT → HasPassSpelling (record { run = run; simulator = simulator; list = list; output = output })
 pass_spelled run simulator list output fits command is small = record {

@@ -2,10 +2,7 @@
 
 ghost use Rattle.std.specs.Prelude.{◌≡◌, ◌<◌, ◌≤◌, ◌+◌, ◌-◌, ◌*◌, [], Some, drop, length, slice_index_or, IfOk, OnOk};
 ghost use Rattle.std.specs.List.{flat_map};
-ghost use Rattle.base.specs.Names.{FitsName};
-ghost use Rattle.base.specs.declared.limits.TheConstants.{ARTEFACT_LIMIT};
 ghost use Rattle.store_codec.specs.Compaction.{compacted_ref, with_compacted_text};
-ghost use Rattle.store_codec.specs.Writing.{part_ref};
 ghost use Rattle.store_journal.specs.DeadBytes.{capped_length};
 ghost use Rattle.store_journal.specs.Payloads.{block};
 ghost use Rattle.store_table.specs.Located.{IsProductRow, located_texts, row_product};
@@ -21,8 +18,8 @@ ghost use Rattle.passes_table.specs.declared.writing.TheConstants.{FILE_SIZE, LI
 
 use crate::LocatedPasses;
 use crate::compacting::{KeptNumbers, copy_run, is_superseded, no_numbers};
-use crate::writing::{FILE_SIZE, LIST_SIZE, PassParts, head_of};
-use base::{FileName, NoMemory};
+use crate::writing::{FILE_SIZE, LIST_SIZE, PassParts, file_size, head_of};
+use base::NoMemory;
 use base_bytes::{bytes_in, copy_words};
 use base_collections::NumberSet;
 use std::alloc::Global;
@@ -35,21 +32,6 @@ use store_table::{HeldPayloads, ProductRow, text_at};
 pub struct CountedPasses {
     pub bytes: u64,
     pub numbers: KeptNumbers,
-}
-
-/// The number of bytes of a file of a new list, with its artefact by number or in full.
-fn file_size(name: &FileName, artefact: TextPart<'_>) -> usize
-    requires name { FitsName name.now }
-    requires artefact { length artefact.text.now ≤ ARTEFACT_LIMIT }
-    ensures is { result
-        ≡ length (file_bytes (record { name = name.now; artefact = part_ref artefact.entry })) }
-    ensures small { result ≤ FILE_SIZE }
-{
-    let named = 8 + name.library.bytes().len() + name.path.bytes().len();
-    match artefact.known {
-        Some(_number) => named + 9,
-        None => named + 5 + artefact.text.len(),
-    }
 }
 
 /// The number of bytes of a file of a list, with its artefact by its new number if it has one, and in full otherwise.

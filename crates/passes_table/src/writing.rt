@@ -2,7 +2,8 @@
 
 ghost use Rattle.std.specs.Prelude.{◌≡◌, ◌<◌, ◌≤◌, ◌*◌, ◌++◌, [], ℕ, List, Some, length, slice_index_or, Contains, IfOk, OnOk};
 ghost use Rattle.std.specs.List.{flat_map};
-ghost use Rattle.base.specs.declared.limits.TheConstants.{FILE_LIMIT};
+ghost use Rattle.base.specs.Names.{FitsName};
+ghost use Rattle.base.specs.declared.limits.TheConstants.{ARTEFACT_LIMIT, FILE_LIMIT};
 ghost use Rattle.testbench_runs.specs.BenchJobs.{texts_bytes};
 ghost use Rattle.store_codec.specs.Writing.{part_ref};
 ghost use Rattle.store_table.specs.Located.{AreTextsLocated, located_texts};
@@ -15,7 +16,7 @@ ghost use Rattle.passes_table.specs.declared.writing.TheConstants.{FILE_SIZE, HE
 ghost use Rattle.passes_table.specs.Pending.{IsPending, all_texts, known_after, row_draft, row_drafts, row_ref};
 
 use crate::{FoundList, ListPart, LocatedPasses, NextPass, PassAddition, PendingList};
-use base::{FILE_LIMIT, NoMemory, TextList};
+use base::{FILE_LIMIT, FileName, NoMemory, TextList};
 use base_bytes::ByteWriter;
 use passes_codec::{
     PassRanges, known_pass_payload, put_file, put_list_start, put_output, put_run, put_simulator,
@@ -160,6 +161,21 @@ fn put_files<'a>(
     Ok(())
 }
 
+/// The number of bytes of a file of a new list, with its artefact by number or in full.
+pub fn file_size(name: &FileName, artefact: TextPart<'_>) -> usize
+    requires name { FitsName name.now }
+    requires artefact { length artefact.text.now ≤ ARTEFACT_LIMIT }
+    ensures is { result
+        ≡ length (file_bytes (record { name = name.now; artefact = part_ref artefact.entry })) }
+    ensures small { result ≤ FILE_SIZE }
+{
+    let named = 8 + name.library.bytes().len() + name.path.bytes().len();
+    match artefact.known {
+        Some(_number) => named + 9,
+        None => named + 5 + artefact.text.len(),
+    }
+}
+
 /// The number of bytes of a row as a file of a new list.
 fn row_size(
     held: &HeldPayloads<'_>,
@@ -178,12 +194,8 @@ fn row_size(
         (file_bytes (row_draft table.now.names.keys (all_texts texts list.now) known row)) }
     ensures small { result ≤ FILE_SIZE }
 {
-    let name = table.names.key(row.name);
-    let named = 8 + name.library.bytes().len() + name.path.bytes().len();
-    if row.text < known {
-        return named + 9;
-    }
-    named + 5 + text_of(held, table, list, row.text).len()
+    let part = part_of(held, table, list, known, row);
+    file_size(table.names.key(row.name), part)
 }
 
 /// The number of bytes that the files of the list take in a payload.

@@ -12,5 +12,5 @@ mod paths;
 mod tables;
 mod values;
 
-pub use csv::read_csv_project;
+pub use csv::{is_path, read_csv_project};
 pub use tables::read_toml_project;

@@ -3,8 +3,7 @@
 ghost use Rattle.std.specs.Prelude.{◌≡◌, ◌<◌, ◌≤◌, ◌∷◌, [], false, true, map, take, List, length, slice_get, All, Some};
 ghost use Rattle.std.specs.Bool.{OnFalse};
 ghost use Rattle.std.specs.Result.{is_ok};
-ghost use Rattle.base.specs.declared.file.FileName.{FileName};
-ghost use Rattle.base.specs.declared.graph.Entry.{Entry};
+ghost use Rattle.run_spec.specs.Types.{FileName, Entry};
 ghost use Rattle.base.specs.Graphs.{IsGraph};
 ghost use Rattle.outside.specs.Records.{HasLatest, deps_at, latest_built};
 ghost use Rattle.outside.specs.Commits.{one_if};

@@ -2,8 +2,7 @@
 
 ghost use Rattle.std.specs.Prelude.{ℕ, ◌≡◌, ◌<◌, ◌≤◌, ◌++◌, ◌∷◌, [], List, Option, length, All, IsTrue, Some, IfOk, OnOk};
 ghost use Rattle.std.specs.List.{filter_map, flat_map};
-ghost use Rattle.base.specs.declared.file.FileName.{FileName};
-ghost use Rattle.base.specs.declared.graph.Entry.{Entry};
+ghost use Rattle.run_spec.specs.Types.{FileName, Entry};
 ghost use Rattle.base.specs.PresentGraph.{below};
 ghost use Rattle.base.specs.Jobs.{built_bytes};
 ghost use Rattle.outside.specs.Records.{Record, IsRecorded, deps_at};

@@ -35,28 +35,23 @@ count_ends-append : (k : ℕ) (xs ys : List End) → count_ends k (xs ++ ys) ≡
 count_ends-append k [] ys = omega arith
 count_ends-append k (end ∷ xs) ys = omega (arith, count_ends-append k xs ys)
 
+-- a file that was taken is another than one that was not
+not_own : (progress : BuildProgress) (k position : ℕ) → was_taken progress k ≡ false → was_taken progress position ≡ true → own (eqb position k) ≡ 0
+not_own progress k position fresh taken = elim (cases_Bool (eqb position k)) [
+  | inl t ↦ absurd (both_ways (was_taken progress k) fresh (subst (λ (j : ℕ). was_taken progress j ≡ true) (eqb-true position k t) taken))
+  | inr f ↦ ap own f
+]
+
 -- a file that wasn't taken has no running child
 no_run : (progress : BuildProgress) (k : ℕ) → was_taken progress k ≡ false → (runs : List Run) → All (λ run. was_taken progress run.position ≡ true) runs → count_runs k runs ≡ 0
 no_run progress k fresh [] all = refl
 no_run progress k fresh (run ∷ runs) all =
-    elim (cases_Bool (eqb run.position k)) [
-      | inl t ↦ absurd (both_ways (was_taken progress k) fresh (subst (λ (j : ℕ). was_taken progress j ≡ true) (eqb-true run.position k t) (All-head (λ r. was_taken progress r.position ≡ true) run runs all)))
-      | inr f ↦
-          let rest = no_run progress k fresh runs (All-tail (λ r. was_taken progress r.position ≡ true) run runs all) in
-          let none : own (eqb run.position k) ≡ 0 = ap own f in
-          omega (arith, rest, none)
-    ]
+    omega (arith, no_run progress k fresh runs (All-tail (λ r. was_taken progress r.position ≡ true) run runs all), not_own progress k run.position fresh (All-head (λ r. was_taken progress r.position ≡ true) run runs all))
 
 pub no_end : (progress : BuildProgress) (k : ℕ) → was_taken progress k ≡ false → (ends : List End) → All (λ end. was_taken progress end.position ≡ true) ends → count_ends k ends ≡ 0
 no_end progress k fresh [] all = refl
 no_end progress k fresh (end ∷ ends) all =
-    elim (cases_Bool (eqb end.position k)) [
-      | inl t ↦ absurd (both_ways (was_taken progress k) fresh (subst (λ (j : ℕ). was_taken progress j ≡ true) (eqb-true end.position k t) (All-head (λ e. was_taken progress e.position ≡ true) end ends all)))
-      | inr f ↦
-          let rest = no_end progress k fresh ends (All-tail (λ e. was_taken progress e.position ≡ true) end ends all) in
-          let none : own (eqb end.position k) ≡ 0 = ap own f in
-          omega (arith, rest, none)
-    ]
+    omega (arith, no_end progress k fresh ends (All-tail (λ e. was_taken progress e.position ≡ true) end ends all), not_own progress k end.position fresh (All-head (λ e. was_taken progress e.position ≡ true) end ends all))
 
 -- a child that ends no longer runs
 without_run : (k ticket : ℕ) (runs : List Run) (run : Run) → run_of ticket runs ≡ Some run → count_runs k runs ≡ own (eqb run.position k) + count_runs k (others_of ticket runs)

@@ -2,10 +2,7 @@
 
 ghost use Rattle.std.specs.Prelude.{◌≡◌, ◌≢◌, ◌↔◌, if◌then◌else◌, ℕ, ◌<◌, ◌++◌, [], ◌∷◌, true, false, List, length, slice_get, Some, None, is_some, All, AllPairs, Contains};
 ghost use Rattle.std.specs.List.{list_any};
-ghost use Rattle.base.specs.declared.graph.Entry.{Entry};
-ghost use Rattle.base.specs.declared.child.Request.{Request};
-ghost use Rattle.base.specs.declared.child.Exit.{Exit};
-ghost use Rattle.base.specs.declared.child.Event.{Event};
+ghost use Rattle.run_spec.specs.Types.{Entry, Request, Exit, Event};
 ghost use Rattle.base.specs.declared.child.Event.TheVariants.{Started};
 ghost use Rattle.base.specs.Graphs.{IsGraph};
 ghost use Rattle.run_spec.specs.ChildJournal.{Work, Lawful, Answered, IsWhole, artefact_after, artefact_so_far, progress_of, next_position};

@@ -2,10 +2,7 @@
 
 ghost use Rattle.std.specs.Prelude.{◌≡◌, ℕ, List, slice_get, Option, Some};
 ghost use Rattle.std.specs.List.{filter_map};
-ghost use Rattle.base.specs.declared.file.FileName.{FileName};
-ghost use Rattle.base.specs.declared.graph.Entry.{Entry};
-ghost use Rattle.base.specs.declared.child.Request.{Request};
-ghost use Rattle.base.specs.declared.child.Exit.{Exit};
+ghost use Rattle.run_spec.specs.Types.{FileName, Entry, Request, Exit};
 ghost use Rattle.base.specs.Graphs.{IsGraph};
 ghost use Rattle.base.specs.View.{part};
 ghost use Rattle.outside.specs.Records.{Record, latest, latest_alone};

@@ -2,10 +2,7 @@
 
 ghost use Rattle.std.specs.Prelude.{◌≡◌, ◌⊎◌, ℕ, Bool, ◌<◌, ◌++◌, [], ◌∷◌, false, List, length, slice_get, Some};
 ghost use Rattle.std.specs.List.{AllByRecursion};
-ghost use Rattle.base.specs.declared.file.FileName.{FileName};
-ghost use Rattle.base.specs.declared.graph.Entry.{Entry};
-ghost use Rattle.base.specs.declared.child.Request.{Request};
-ghost use Rattle.base.specs.declared.child.Event.{Event};
+ghost use Rattle.run_spec.specs.Types.{FileName, Entry, Request, Event};
 ghost use Rattle.base.specs.declared.child.Event.TheVariants.{Started};
 ghost use Rattle.outside.specs.Disks.{DiskState, Image, IsImage, reads_of, settled_disk};
 ghost use Rattle.outside.specs.Records.{Record, deps_at, latest};

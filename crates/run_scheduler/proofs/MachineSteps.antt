@@ -345,16 +345,12 @@ not_or : (a e : Bool) → not (a || e) ≡ (not a && not e)
 not_or true e = refl
 not_or false e = refl
 
+or_and : (x : Bool) → ((x || true) && true) ≡ true
+or_and true = refl
+or_and false = refl
+
 check_made : (c m e : Bool) → (e ≡ true → m ≡ true) → ((c && m) || e) ≡ ((c || e) && m)
 check_made c m true is = or_true (c && m) ∙ sym (ap (λ b. (c || true) && b) (is refl) ∙ or_and c)
-  where
-    or_true : (x : Bool) → (x || true) ≡ true
-    or_true true = refl
-    or_true false = refl
-
-    or_and : (x : Bool) → ((x || true) && true) ≡ true
-    or_and true = refl
-    or_and false = refl
 check_made true true false is = refl
 check_made true false false is = refl
 check_made false m false is = refl
@@ -380,14 +376,6 @@ check_ready_made false false false false = refl
 
 check_ready : (c t n e : Bool) → (e ≡ true → (t ≡ false) × (n ≡ false)) → ((c && (not t && not n)) || e) ≡ ((c || e) && (not t && not n))
 check_ready c t n true is = or_true (c && (not t && not n)) ∙ sym (ap₂ (λ (a b : Bool). (c || true) && (not a && not b)) (is refl).0 (is refl).1 ∙ or_and c)
-  where
-    or_true : (x : Bool) → (x || true) ≡ true
-    or_true true = refl
-    or_true false = refl
-
-    or_and : (x : Bool) → ((x || true) && true) ≡ true
-    or_and true = refl
-    or_and false = refl
 check_ready true t n false is = or_false (not t && not n)
   where
     or_false : (x : Bool) → (x || false) ≡ x

@@ -2,7 +2,7 @@
 use Rattle.std.proofs.Common.{◌≡◌, ◌≢◌, ℕ, ◌+◌, ◌<◌, nat_lt, Bool, true, false, not, ◌&&◌, ◌||◌, cond, List, [], length, map, get_or, take, refl, sym, ap, ap₂, subst, ◌∙◌, arith, inl, inr}
 use Rattle.std.specs.Prelude.{All, Option}
 use Rattle.std.specs.Option.{option_map_or}
-use Rattle.std.proofs.lemmas.Bool.{cases_lt, cond-true, cond-false, lt-ltb, le-ltb, true≢false, false≢true}
+use Rattle.std.proofs.lemmas.Bool.{cond-true, cond-false, lt-ltb, le-ltb, true≢false, false≢true}
 use Rattle.std.proofs.lemmas.Option.{slice_get_cases}
 use Rattle.std.proofs.lemmas.List.Elements.{All-nil}
 use Rattle.base.specs.declared.graph.Entry.{Entry}
@@ -12,6 +12,7 @@ use Rattle.base_collections.specs.Positions.{has}
 use Rattle.order.specs.Counts.{undone}
 use Rattle.order.specs.Waits.{AreWaitingFiles}
 use Rattle.order.specs.declared.files.ReadyFiles.{ReadyFiles}
+use Rattle.order.proofs.Takes.{none_here, one_here, others_same}
 use Rattle.order.proofs.WaitSteps.{waits_same, waits_as}
 use Rattle.order.proofs.Times.{count_more}
 use Rattle.run_spec.specs.Moves.{Workload, empty_schedule}
@@ -51,18 +52,6 @@ undone_step made deps i count more b lt is before next =
 
 none_so_far : (deps : List ℕ) (at : ℕ) → cond {A = List ℕ} (nat_lt at 0) deps [] ≡ []
 none_so_far deps at = cond-false (nat_lt at 0) deps [] (le-ltb at 0 (omega arith))
-
-none_here : (deps : List ℕ) (at : ℕ) → cond {A = List ℕ} (nat_lt at at) deps [] ≡ []
-none_here deps at = cond-false (nat_lt at at) deps [] (le-ltb at at (omega arith))
-
-one_here : (deps : List ℕ) (at : ℕ) → cond {A = List ℕ} (nat_lt at (at + 1)) deps [] ≡ deps
-one_here deps at = cond-true (nat_lt at (at + 1)) deps [] (lt-ltb at (at + 1) (omega arith))
-
-others_same : (deps : List ℕ) (at k : ℕ) → k ≢ at → cond {A = List ℕ} (nat_lt k (at + 1)) deps [] ≡ cond (nat_lt k at) deps []
-others_same deps at k ne = elim (cases_lt k at) [
-  | inl l ↦ cond-true (nat_lt k (at + 1)) deps [] (lt-ltb k (at + 1) (omega arith)) ∙ sym (cond-true (nat_lt k at) deps [] (lt-ltb k at l))
-  | inr l ↦ cond-false (nat_lt k (at + 1)) deps [] (le-ltb k (at + 1) (omega (arith, l, ne))) ∙ sym (cond-false (nat_lt k at) deps [] (le-ltb k at l))
-]
 
 -- a file that needs no check depends on what it may
 pub counted_none : (graph : List Entry) (checked made : List Bool) (later : ReadyFiles) (at : ℕ) → get_or checked at false ≡ true → AreCountedTo graph checked made later at → AreCountedTo graph checked made later (at + 1)

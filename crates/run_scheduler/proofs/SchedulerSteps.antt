@@ -96,18 +96,22 @@ below_more : (n : ℕ) → below (n + 1) ≡ below n ++ n ∷ []
 unfolding below
 below_more n = let same : n + 1 ≡ suc n = omega arith in ap below same
 
+-- it is still of this workload
+still_of : (workload : Workload) (runs limit : ℕ) (fail_fast : Bool) (count most : ℕ) (fails : Bool) → count ≡ runs → most ≡ limit → fails ≡ fail_fast → IsSchedulerWorkload workload runs limit fail_fast → IsSchedulerWorkload workload count most fails
+still_of workload runs limit fail_fast count most fails c l f is = record {
+  count = is.count ∙ sym c;
+  deps = is.deps;
+  is_made = is.is_made;
+  slots = is.slots ∙ sym l;
+  keep_going = is.keep_going ∙ ap not (sym f);
+}
+
 -- the next run is started
 pub in_step_started : (old new : TestScheduler) (workload : Workload) (schedule : SchedulerState) (at ticket : ℕ) → at ≡ old.next → new.next ≡ old.next + 1 → new.count ≡ old.count → new.limit ≡ old.limit → new.fail_fast ≡ old.fail_fast
     → new.children.items ≡ old.children.items ++ (record { ticket = ticket; position = at }) ∷ [] → new.is_halted ≡ old.is_halted → IsSchedulerOf old workload schedule → IsSchedulerOf new workload (after_move workload schedule (Starts at ticket))
 unfolding after_move
 in_step_started old new workload schedule at ticket first next count limit fail children halted is = record {
-  of_workload = record {
-    count = is.of_workload.count ∙ sym count;
-    deps = is.of_workload.deps;
-    is_made = is.of_workload.is_made;
-    slots = is.of_workload.slots ∙ sym limit;
-    keep_going = is.of_workload.keep_going ∙ ap not (sym fail);
-  };
+  of_workload = still_of workload _ _ _ _ _ _ count limit fail is.of_workload;
   halted = is.halted ∙ sym halted;
   running = ap (λ running. running ++ (record { ticket = ticket; position = at }) ∷ []) is.running
       ∙ sym (map-append running_child old.children.items ((record { ticket = ticket; position = at }) ∷ [])) ∙ ap (map running_child) (sym children);
@@ -133,13 +137,7 @@ unmade_first workload runs limit fail_fast is at = is.is_made [] at
 pub in_step_ended : (old new : TestScheduler) (workload : Workload) (schedule : SchedulerState) (at : ℕ) (ok : Bool) (output : List ℕ) → new.next ≡ old.next → new.count ≡ old.count → new.limit ≡ old.limit → new.fail_fast ≡ old.fail_fast → new.children.items ≡ old.children.items
     → (schedule.halted || (not workload.keep_going && not ok)) ≡ new.is_halted → at < old.next → IsSchedulerOf old workload schedule → IsSchedulerOf new workload (with_end workload schedule at ok output)
 in_step_ended old new workload schedule at ok output next count limit fail children halted lt is = record {
-  of_workload = record {
-    count = is.of_workload.count ∙ sym count;
-    deps = is.of_workload.deps;
-    is_made = is.of_workload.is_made;
-    slots = is.of_workload.slots ∙ sym limit;
-    keep_going = is.of_workload.keep_going ∙ ap not (sym fail);
-  };
+  of_workload = still_of workload _ _ _ _ _ _ count limit fail is.of_workload;
   halted = halted;
   running = is.running ∙ ap (map running_child) (sym children);
   taken = is.taken ∙ ap below (sym next);

@@ -6,6 +6,7 @@ use Rattle.std.proofs.lemmas.List.Sums.{sum_by_push}
 use Rattle.base.specs.PresentGraph.{below}
 use Rattle.base_collections.specs.Positions.{has}
 use Rattle.base_collections.specs.declared.set.PositionSet.{PositionSet}
+use Rattle.order.proofs.WaitSteps.{and_here, and_other}
 use Rattle.run_scheduler.specs.Machines.{count_in}
 use Rattle.run_scheduler.proofs.Passing.{or_no, or_yes}
 
@@ -38,14 +39,6 @@ module _ (p q : ℕ → Bool) (at : ℕ) (others : (k : ℕ) → k ≢ at → q 
         let here : cond {A = ℕ} (q n) 1 0 ≡ cond {A = ℕ} (p n) 1 0 = ap (λ (b : Bool). cond {A = ℕ} b 1 0) (others n ne) in
         omega (arith, count_next p n, count_next q n, both_ways_till n (omega (arith, ne, lt)), here)
   ]
-
-and_here : (a e : Bool) → e ≡ true → (a && not e) ≡ false
-and_here true e is = ap not is
-and_here false e is = refl
-
-and_other : (a e : Bool) → e ≡ false → (a && not e) ≡ a
-and_other true e fails = ap not fails
-and_other false e fails = refl
 
 module _ (old new : PositionSet) (at n : ℕ) (lt : at < n) (less : (k : ℕ) → has new k ≡ (has old k && not (at == k))) where
   gone : cond {A = ℕ} (has new at) 1 0 ≡ 0

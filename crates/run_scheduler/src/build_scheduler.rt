@@ -226,6 +226,7 @@ impl BuildScheduler {
     }
 
     /// Removes the child of a ticket. Gives the position of its file.
+    #[tactic(auto, unfolding(crate::specs::Machines::is_checked, crate::specs::Machines::is_stopped_in, crate::specs::Machines::files_of, crate::specs::Machines::tickets_of))]
     fn end_child(&mut self, ticket: u64) -> u32
         requires { Contains (tickets_of self.old) ticket }
         ensures within { result < files_of self.old }
@@ -262,6 +263,7 @@ impl BuildScheduler {
     }
 
     /// A compiler has refused its file.
+    #[tactic(auto, unfolding(crate::specs::Machines::is_checked, crate::specs::Machines::is_stopped_in, crate::specs::Machines::files_of, crate::specs::Machines::tickets_of))]
     fn refuse(&mut self)
         ensures in_step { (workload : Workload) (schedule : SchedulerState) (at : ℕ) (output : List ℕ) →
             IsMachineOf self.old workload schedule →
@@ -278,6 +280,7 @@ impl BuildScheduler {
     }
 
     /// Nothing more is checked or started.
+    #[tactic(auto, unfolding(crate::specs::Machines::is_checked, crate::specs::Machines::is_stopped_in, crate::specs::Machines::files_of, crate::specs::Machines::tickets_of))]
     pub fn stop(&mut self)
         ensures in_step { (workload : Workload) (schedule : SchedulerState) → IsMachineOf self.old workload schedule →
             IsMachineOf self.new workload (after_move workload schedule Halts) }
@@ -296,6 +299,7 @@ impl BuildScheduler {
     }
 
     /// Records the start of the file that `next` gave: its child runs and has this ticket.
+    #[tactic(auto, unfolding(crate::specs::Machines::is_checked, crate::specs::Machines::is_stopped_in, crate::specs::Machines::files_of, crate::specs::Machines::tickets_of))]
     pub fn record_start(&mut self, at: u32, ticket: u64)
         requires { next_of self.old ≡ Run (Start at) }
         ensures lawful { (workload : Workload) (schedule : SchedulerState) → IsMachineOf self.old workload schedule →

@@ -1,4 +1,5 @@
 -- The definitions.
+pub mod Types
 pub mod Folds
 pub mod Moves
 pub mod ChildJournal

@@ -2,9 +2,7 @@
 
 ghost use Rattle.std.specs.Prelude.{◌≡◌, ◌↔◌, ℕ, ◌<◌, ◌++◌, List, [], ◌∷◌, Option, Some, slice_get};
 ghost use Rattle.std.specs.Bool.{Decides};
-ghost use Rattle.base.specs.declared.file.FileName.{FileName};
-ghost use Rattle.base.specs.declared.graph.Entry.{Entry};
-ghost use Rattle.base.specs.declared.graph.BuiltFile.{BuiltFile};
+ghost use Rattle.run_spec.specs.Types.{FileName, Entry, BuiltFile};
 ghost use Rattle.outside.specs.Records.{Asked, Record, asked_of};
 ghost use Rattle.base.specs.Graphs.{IsGraph};
 ghost use Rattle.run_spec.specs.Moves.{IsStepwise};

@@ -1,11 +1,8 @@
 //! The end of one run.
 
 ghost use Rattle.std.specs.Prelude.{◌≡◌, ◌<◌, ◌++◌, ◌∷◌, [], ℕ, All, Bool, List, None, Some, Err, length, slice_get, take, Contains, IfSome, is_some, false, true};
-ghost use Rattle.base.specs.declared.child.Request.{Request};
-ghost use Rattle.base.specs.declared.child.Exit.{Exit};
-ghost use Rattle.base.specs.declared.child.Event.{Event};
+ghost use Rattle.run_spec.specs.Types.{BuiltFile, Request, Exit, Event};
 ghost use Rattle.base.specs.declared.child.Event.TheVariants as event;
-ghost use Rattle.base.specs.declared.graph.BuiltFile.{BuiltFile};
 ghost use Rattle.outside.specs.Children.{without, ended_ticket, end_event};
 ghost use Rattle.outside.specs.Counts.{ChildCounts};
 ghost use Rattle.outside.specs.FaultCounts.{BuildFaultCounts, child_counts};

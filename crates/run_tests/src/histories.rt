@@ -1,10 +1,7 @@
 //! The laws of histories, as functions with an empty body: a caller cites one by calling it.
 
 ghost use Rattle.std.specs.Prelude.{◌≡◌, ◌⊎◌, ◌↔◌, [], ◌∷◌, ◌++◌, false, List, Some};
-ghost use Rattle.base.specs.declared.file.FileName.{FileName};
-ghost use Rattle.base.specs.declared.child.Request.{Request};
-ghost use Rattle.base.specs.declared.child.Exit.{Exit};
-ghost use Rattle.base.specs.declared.child.Event.{Event};
+ghost use Rattle.run_spec.specs.Types.{FileName, Request, Exit, Event};
 ghost use Rattle.base.specs.Graphs.{IsGraph};
 ghost use Rattle.outside.specs.Records.{Record, latest};
 ghost use Rattle.outside.specs.Disks.{DiskState, Image, reads_of, settled_disk};

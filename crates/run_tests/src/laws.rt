@@ -2,9 +2,7 @@
 
 ghost use Rattle.std.specs.Prelude.{◌≡◌, [], true, false, Bool, List, Result};
 ghost use Rattle.std.specs.List.{list_all};
-ghost use Rattle.base.specs.declared.child.Request.{Request};
-ghost use Rattle.base.specs.declared.child.Exit.{Exit};
-ghost use Rattle.base.specs.declared.child.Event.{Event};
+ghost use Rattle.run_spec.specs.Types.{Request, Exit, Event};
 ghost use Rattle.base.specs.Graphs.{IsGraph};
 ghost use Rattle.outside.specs.Records.{Record};
 ghost use Rattle.outside.specs.Disks.{Image, Moments};

@@ -1,9 +1,7 @@
 //! The start of one run, and runs that are halted by a fault.
 
 ghost use Rattle.std.specs.Prelude.{◌≡◌, ◌<◌, ◌≤◌, ◌++◌, ◌∷◌, [], ℕ, Bool, List, Some, None, All, length, IfOk, OnErr, is_some, false};
-ghost use Rattle.base.specs.declared.child.Request.{Request};
-ghost use Rattle.base.specs.declared.child.Exit.{Exit};
-ghost use Rattle.base.specs.declared.child.Event.{Event};
+ghost use Rattle.run_spec.specs.Types.{Request, Exit, Event};
 ghost use Rattle.base.specs.declared.child.Event.TheVariants.{Started};
 ghost use Rattle.outside.specs.Children.{IsFresh};
 ghost use Rattle.outside.specs.FaultCounts.{BuildFaultCounts, child_counts};

@@ -34,6 +34,10 @@ rests_then result old middle new goes same rests = record {
 pub healthy_then : (form : ℕ) (old middle : DiskState) → reads_of middle ≡ reads_of old → IsHealthy form (reads_of old) → IsHealthy form (reads_of middle)
 healthy_then form old middle same healthy = subst (IsHealthy form) (sym same) healthy
 
+-- both, for what is opened after such a call
+pub rests_healthy : {T E : Type 0} (form : ℕ) (result : Result T E) (old middle new : Moments) → Goes old.now old middle → reads_of middle.now ≡ reads_of old.now → (IsHealthy form (reads_of middle.now) → Rests result middle new) → IsHealthy form (reads_of old.now) → Rests result old new
+rests_healthy form result old middle new goes same rests healthy = rests_then result old middle new goes same (rests (healthy_then form old.now middle.now same healthy))
+
 -- where the journal is healthy its last commit byte isn't open
 pub healthy_shut : (form : ℕ) (side : Side) (generation len : ℕ) (list : List (List ℕ)) (image : Image) → IsHealthy form image → Ends form side generation len list image → get_or (image_side side image) (len - 1) 0 ≢ 1
 healthy_shut form side generation len list image healthy ends one =

@@ -5,6 +5,7 @@ ghost use Rattle.testbench_select.specs.Choosing.{Chooses, IsBounded};
 ghost use Rattle.testbench_select.specs.Selection.{has_cases, is_selected, name_start, selected_bench, selected_cases, selection, with_cases};
 
 use crate::choosing::{Choice, choice_of, is_chosen};
+use crate::names::name_start;
 use crate::pattern::PatternList;
 use base::NoMemory;
 use base_outcomes::{Bench, CaseList, TestCase, Tests};
@@ -34,19 +35,6 @@ fn with_cases(alloc: Global, bench: &Bench, cases: CaseList) -> Result<Bench, No
         whole: bench.whole,
         same_sim: bench.same_sim,
     })
-}
-
-/// What the full names of a bench begin with, in memory that has room for a case.
-fn name_start(alloc: Global, bench: &Bench) -> Result<Vec<u8>, NoMemory>
-    ensures { IfOk result (λ name. name.items ≡ name_start bench.now) }
-{
-    let library = bench.library.bytes();
-    let entity = bench.name.bytes();
-    let mut name = Vec::from_slice(alloc, library)?;
-    name.push(b'.')?;
-    name.extend_from_slice(entity)?;
-    name.push(b'.')?;
-    Ok(name)
 }
 
 /// Puts the name of a case behind the first `kept` bytes of a name.

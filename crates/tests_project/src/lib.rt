@@ -2,12 +2,4 @@
 #![tactic(auto)]
 
 #[cfg(test)]
-mod lines;
-#[cfg(test)]
-mod many_files;
-#[cfg(test)]
-mod projects;
-#[cfg(test)]
-mod random_projects;
-#[cfg(test)]
-mod words;
+mod tests;

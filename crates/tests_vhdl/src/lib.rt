@@ -3,26 +3,4 @@
 #![tactic(auto)]
 
 #[cfg(test)]
-mod benches;
-#[cfg(test)]
-mod cuts;
-#[cfg(test)]
-mod edges;
-#[cfg(test)]
-mod graphs;
-#[cfg(test)]
-mod libraries;
-#[cfg(test)]
-mod links;
-#[cfg(test)]
-mod orders;
-#[cfg(test)]
-mod outlines;
-#[cfg(test)]
-mod patterns;
-#[cfg(test)]
-mod projects;
-#[cfg(test)]
-mod references;
-#[cfg(test)]
-mod tables;
+mod tests;

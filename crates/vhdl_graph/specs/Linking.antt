@@ -90,7 +90,6 @@ FileGives project units made designs old new before after result =
 
 -- rows have the pairs that a project names
 pub record AreRowsOf (project : Project) (rows : List PositionSet) : Type 0 where
-  pub each : length rows ≡ length project.files
   pub pairs : (user at : ℕ) → user < length project.files → at < FILE_LIMIT → is_in_row rows user at ≡ has_pair project.depends user at
 
 -- the first that is missing, and else edges and warnings

@@ -14,7 +14,7 @@ ghost use Rattle.vhdl_graph.specs.Results.{GivesLinks};
 
 use crate::index::index_of;
 use crate::libraries::libraries_of;
-use crate::pairs::rows_of_pairs;
+use crate::pairs::{add_row, rows_of_pairs};
 use crate::seen::{Tables, no_scratch};
 use crate::units::link_file;
 use base::{Edges, FILE_LIMIT, LinkFault, Linked, Project, TextList, WarningList};
@@ -51,7 +51,7 @@ fn link_files(
     let mut scratch = no_scratch(alloc);
     for file in 0..count {
         let mut row = PositionSet::new();
-        row.add_all(&rows[file as usize]);
+        add_row(&mut row, rows, file as usize);
         let text = texts.get(file).bytes();
         link_file(
             alloc,

@@ -30,21 +30,13 @@ module _ (start tick : Bool) (a b c : ℕ) where
   unfolding first_row
   space_row is = grind (arith, nat_tests)
 
-  pub line_comment_row : a ≡ 45 → b ≡ 45 → first_row start tick a b c ≡ line_comment
+  pub dash_rows : a ≡ 45 → (b ≡ 45 → first_row start tick a b c ≡ line_comment) × (b ≢ 45 → first_row start tick a b c ≡ token Symbol)
   unfolding first_row
-  line_comment_row is next = grind (arith, nat_tests)
+  dash_rows is = (λ next. grind (arith, nat_tests), λ next. grind (arith, nat_tests))
 
-  pub dash_row : a ≡ 45 → b ≢ 45 → first_row start tick a b c ≡ token Symbol
+  pub slash_rows : a ≡ 47 → (b ≡ 42 → first_row start tick a b c ≡ block_comment) × (b ≢ 42 → first_row start tick a b c ≡ token Symbol)
   unfolding first_row
-  dash_row is next = grind (arith, nat_tests)
-
-  pub block_comment_row : a ≡ 47 → b ≡ 42 → first_row start tick a b c ≡ block_comment
-  unfolding first_row
-  block_comment_row is next = grind (arith, nat_tests)
-
-  pub slash_row : a ≡ 47 → b ≢ 42 → first_row start tick a b c ≡ token Symbol
-  unfolding first_row
-  slash_row is next = grind (arith, nat_tests)
+  slash_rows is = (λ next. grind (arith, nat_tests), λ next. grind (arith, nat_tests))
 
   pub directive_row : a ≡ 96 → first_row start tick a b c ≡ tool_directive
   unfolding first_row

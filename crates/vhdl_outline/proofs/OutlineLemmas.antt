@@ -113,16 +113,21 @@ scopes_kept (text ∷ texts) (scan ∷ scans) (file ∷ files) are =
     ap (λ (some : List UnitScope). some ++ file_scopes files) (are.are 0 text scan file refl refl refl).scopes
     ∙ ap (λ (some : List UnitScope). map (scope_of text scan) scan.units ++ some) (scopes_kept texts scans files (later text texts scan scans file files are))
 
+-- what holds of two lists item by item holds with one item more of each
+by_push : {X Y : Type 0} (P : X → Y → Type 0) (xs : List X) (ys : List Y) (x : X) (y : Y) → length ys ≡ length xs → ((i : ℕ) (a : X) (b : Y) → slice_get xs i ≡ Some a → slice_get ys i ≡ Some b → P a b) → P x y
+    → (i : ℕ) (a : X) (b : Y) → slice_get (xs ++ x ∷ []) i ≡ Some a → slice_get (ys ++ y ∷ []) i ≡ Some b → P a b
+by_push P xs ys x y each all last i a b in_xs in_ys = by (got_push xs x i a in_xs) (got_push ys y i b in_ys) where
+  by : (slice_get xs i ≡ Some a) ⊎ ((i ≡ length xs) × (x ≡ a)) → (slice_get ys i ≡ Some b) ⊎ ((i ≡ length ys) × (y ≡ b)) → P a b
+  by (inl d) (inl e) = all i a b d e
+  by (inl d) (inr e) = absurd (omega (arith, slice_get_within xs i a d, e.0, each))
+  by (inr d) (inl e) = absurd (omega (arith, slice_get_within ys i b e, d.0, each))
+  by (inr d) (inr e) = subst (λ q. P q b) d.1 (subst (P x) e.1 last)
+
 some_lie : (texts : List (List ℕ)) (files : List FileOutline) (text : List ℕ) (file : FileOutline) → FilesLieIn texts files → OutlineLiesIn text file → FilesLieIn (texts ++ text ∷ []) (files ++ file ∷ [])
 some_lie texts files text file lie lies = record {
   each = length_push files file ∙ (ap (λ (n : ℕ). n + 1) lie.each ∙ sym (length_push texts text));
-  lie = λ i t f in_texts in_files. by_index i t f (got_push texts text i t in_texts) (got_push files file i f in_files);
-} where
-  by_index : (i : ℕ) (t : List ℕ) (f : FileOutline) → (slice_get texts i ≡ Some t) ⊎ ((i ≡ length texts) × (text ≡ t)) → (slice_get files i ≡ Some f) ⊎ ((i ≡ length files) × (file ≡ f)) → OutlineLiesIn t f
-  by_index i t f (inl a) (inl d) = lie.lie i t f a d
-  by_index i t f (inl a) (inr d) = absurd (omega (arith, slice_get_within texts i t a, d.0, lie.each))
-  by_index i t f (inr a) (inl d) = absurd (omega (arith, slice_get_within files i f d, a.0, lie.each))
-  by_index i t f (inr a) (inr d) = subst (λ (q : List ℕ). OutlineLiesIn q f) a.1 (subst (OutlineLiesIn text) d.1 lies)
+  lie = by_push OutlineLiesIn texts files text file lie.each lie.lie lies;
+}
 
 pub lie_more : (texts : List (List ℕ)) (text : List ℕ) (scan : Scan) (old new : Outlines) → FilesLieIn texts old.files → HasAdded text scan old new → FilesLieIn (texts ++ text ∷ []) new.files
 lie_more texts text scan old new lie added = subst (FilesLieIn (texts ++ text ∷ [])) (sym added.files) (some_lie texts old.files text added.file lie added.lies)
@@ -142,13 +147,8 @@ got_file texts scans files at file are is =
 pub scans_more : (texts : List (List ℕ)) (scans : List Scan) (text : List ℕ) (scan : Scan) → AreScansOf texts scans → IsScanOf text scan → AreScansOf (texts ++ text ∷ []) (scans ++ scan ∷ [])
 scans_more texts scans text scan are is = record {
   each = length_push scans scan ∙ (ap (λ (n : ℕ). n + 1) are.each ∙ sym (length_push texts text));
-  are = λ i t s in_texts in_scans. by_index i t s (got_push texts text i t in_texts) (got_push scans scan i s in_scans);
-} where
-  by_index : (i : ℕ) (t : List ℕ) (s : Scan) → (slice_get texts i ≡ Some t) ⊎ ((i ≡ length texts) × (text ≡ t)) → (slice_get scans i ≡ Some s) ⊎ ((i ≡ length scans) × (scan ≡ s)) → IsScanOf t s
-  by_index i t s (inl a) (inl b) = are.are i t s a b
-  by_index i t s (inl a) (inr b) = absurd (omega (arith, slice_get_within texts i t a, b.0, are.each))
-  by_index i t s (inr a) (inl b) = absurd (omega (arith, slice_get_within scans i s b, a.0, are.each))
-  by_index i t s (inr a) (inr b) = subst (λ (q : List ℕ). IsScanOf q s) a.1 (subst (IsScanOf text) b.1 is)
+  are = by_push IsScanOf texts scans text scan are.each are.are is;
+}
 
 pub no_scans : AreScansOf [] []
 no_scans = record { each = refl; are = λ i text scan in_texts in_scans. let never : ⊥ = cc in absurd never }

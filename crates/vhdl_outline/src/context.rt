@@ -205,5 +205,6 @@ pub fn library_names(
         end,
         &mut names,
     )?;
+    names.shrink_to_fit();
     Ok(Items::from_vec(names))
 }

@@ -1,8 +1,7 @@
 //! Outlines of scanned files: design units with their library names and unresolved references, and testbench facts.
 
-ghost use Rattle.std.specs.Prelude.{◌≡◌, ◌<◌, ◌≤◌, [], IfOk, Some, length, map, slice_get};
+ghost use Rattle.std.specs.Prelude.{◌≡◌, ◌≤◌, [], IfOk, length, map};
 ghost use Rattle.std.specs.List.{All};
-ghost use Rattle.std.specs.Option.{option_map};
 ghost use Rattle.vhdl_spec.specs.Units.{roles_of};
 ghost use Rattle.vhdl_spec.specs.Scans.{IsScanOf};
 ghost use Rattle.vhdl_outline.specs.UnresolvedRefs.{UnresolvedRefsLieIn};
@@ -64,26 +63,6 @@ fn unresolved_of_units(
     Ok(Items::from_vec(all))
 }
 
-/// The library names of the unit of a number in a scan.
-fn scope_at(
-    alloc: Global,
-    text: &[u8],
-    scan: &Scan,
-    roles: &RoleList,
-    number: u32,
-) -> Result<UnitScope, NoMemory>
-    requires scan { IsScanOf text.now scan.now }
-    requires small { length text.now ≤ TEXT_LIMIT }
-    requires roles { roles.now ≡ roles_of text.now scan.now.tokens.list }
-    requires number { number < length scan.now.units }
-    ensures { IfOk result (λ scope.
-        option_map (scope_of text.now scan.now) (slice_get scan.now.units number) ≡ Some scope) }
-{
-    Ok(UnitScope {
-        names: library_names(alloc, text, scan, roles, number)?,
-    })
-}
-
 /// The library names of each unit of a scan, in order.
 fn scopes_of_units(
     alloc: Global,
@@ -99,7 +78,8 @@ fn scopes_of_units(
 {
     let mut scopes = Vec::with_capacity(alloc, scan.units.len() as usize)?;
     for number in 0..scan.units.len() {
-        scopes.push(scope_at(alloc, text, scan, roles, number as u32)?)?;
+        let names = library_names(alloc, text, scan, roles, number as u32)?;
+        scopes.push(UnitScope { names })?;
     }
     Ok(Items::from_vec(scopes))
 }

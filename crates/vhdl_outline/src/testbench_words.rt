@@ -2,24 +2,13 @@
 
 ghost use Rattle.std.specs.Prelude.{◌≡◌, ◌<◌, length};
 ghost use Rattle.std.specs.Str.{bytes_eq};
-ghost use Rattle.vhdl_spec.specs.References.{is_name};
 ghost use Rattle.vhdl_spec.specs.Units.{AreTokensOf, is_closing, is_opening, name_of, roles_of};
 ghost use Rattle.vhdl_outline.specs.Calls.{is_generic_word, is_string, is_word_at};
 ghost use Rattle.vhdl_outline.specs.Passing.{is_other};
 
+use crate::reference_words::is_name;
 use base::{Role, TokenKind, Tokens};
 use vhdl_units::{is_named, role_at};
-
-/// Whether a token is a name that isn't a reserved word.
-#[inline(always)]
-pub fn is_name(role: Role) -> bool
-    ensures { result ≡ is_name role }
-{
-    match role {
-        Role::Name => true,
-        _ => false,
-    }
-}
 
 /// Whether a token is `(`.
 #[inline(always)]

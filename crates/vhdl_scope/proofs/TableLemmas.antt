@@ -4,7 +4,7 @@ use Rattle.std.specs.List.{list_any, slice_get}
 use Rattle.std.specs.Str.{bytes_eq}
 use Rattle.std.proofs.Math.ListN.{get_or-append}
 use Rattle.std.proofs.lemmas.Bool.{cases_lt}
-use Rattle.std.proofs.lemmas.List.{get_or-append-add, get_or-map, get_or_past, length-map}
+use Rattle.std.proofs.lemmas.List.{get_or-append-add, get_or-map, get_or_past, get_or-take, length-map, length-take}
 use Rattle.std.proofs.lemmas.Option.{get_or_from_slice_get, slice_get-get_or, slice_get_within}
 use Rattle.base.specs.declared.design.Scan.{Scan}
 use Rattle.base.specs.declared.design.Unit.{Unit as DesignUnit}
@@ -97,21 +97,22 @@ module _ (units : List ScopeUnit) (names : List (List ℕ)) (rows : List (List �
   pub row_is : (name : List ℕ) → list_any (bytes_eq name) (row_names names (index_row rows at)) ≡ sees units user name
   row_is name = both_ways (list_any (bytes_eq name) (row_names names (index_row rows at))) (sees units user name) (there name) (back name)
 
-pub visible : (files : List ProjectFile) (texts : List (List ℕ)) (scans : List Scan) (scopes : Scopes) (names : List (List ℕ)) (rows : List (List ℕ)) → AreScopes files texts scans scopes → AreGrown (map as_scope (scope_units files texts scans)) (scope_units files texts scans) names rows → AreVisible files texts scans (table_of scopes.starts.items names rows)
+pub visible : (files : List ProjectFile) (texts : List (List ℕ)) (scans : List Scan) (scopes : Scopes) (names : List (List ℕ)) (rows : List (List ℕ)) (count : ℕ) → count ≡ length (scope_units files texts scans) → AreScopes files texts scans scopes → AreGrown (map as_scope (scope_units files texts scans)) (scope_units files texts scans) names rows → AreVisible files texts scans (table_of scopes.starts.items names (take count rows))
 unfolding table_of
-visible files texts scans scopes names rows are grown = record { each = are.each; sees = by_unit } where
+visible files texts scans scopes names rows count counted are grown = record { each = are.each; sees = by_unit } where
   units : List ScopeUnit
   units = scope_units files texts scans
 
-  by_unit : (id : UnitId) (user : ScopeUnit) → IsUnitAt files texts scans id user → (name : List ℕ) → list_any (bytes_eq name) (get_or (map (row_names names) rows) (get_or scopes.starts.items id.file 0 + id.unit) []) ≡ sees (scope_units files texts scans) user name
+  by_unit : (id : UnitId) (user : ScopeUnit) → IsUnitAt files texts scans id user → (name : List ℕ) → list_any (bytes_eq name) (get_or (map (row_names names) (take count rows)) (get_or scopes.starts.items id.file 0 + id.unit) []) ≡ sees (scope_units files texts scans) user name
   by_unit id user unit name =
       let file_within : id.file < length files = slice_get_within files id.file unit.file unit.is_file in
       let start : get_or scopes.starts.items id.file 0 ≡ units_before files texts scans id.file = are.starts id.file file_within in
       let row_index = unit_found files texts scans id.file id.unit unit.file unit.text unit.scan unit.unit unit.is_file unit.is_text unit.is_scan unit.is_unit in
       let found : get_or (scope_units files texts scans) (units_before files texts scans id.file + id.unit) no_unit ≡ user = row_index.1 ∙ sym unit.is in
       let enough : length (scope_units files texts scans) ≤ length rows = rows_enough (scope_units files texts scans) names rows grown in
-      let set : get_or (map (row_names names) rows) (units_before files texts scans id.file + id.unit) [] ≡ row_names names (index_row rows (units_before files texts scans id.file + id.unit)) =
-      get_or-map (row_names names) rows (units_before files texts scans id.file + id.unit) [] [] (omega (arith, row_index.0)) in
+      let set : get_or (map (row_names names) (take count rows)) (units_before files texts scans id.file + id.unit) [] ≡ row_names names (index_row rows (units_before files texts scans id.file + id.unit)) =
+      get_or-map (row_names names) (take count rows) (units_before files texts scans id.file + id.unit) [] [] (omega (arith, row_index.0, enough, counted, length-take count rows))
+      ∙ ap (row_names names) (get_or-take count rows (units_before files texts scans id.file + id.unit) [] (omega (arith, row_index.0, counted))) in
       rw start (rw set (row_is (scope_units files texts scans) names rows grown (units_before files texts scans id.file + id.unit) (row_index.0) user found name))
 
 -- a name that has a number is in a row where its bit is set

@@ -105,7 +105,7 @@ fn join_own(
 fn no_links(alloc: Global, row_indices: usize) -> Result<Vec<LinkList>, NoMemory>
     ensures { IfOk result (λ links. links.items ≡ replicate row_indices []) }
 {
-    let mut links: Vec<LinkList> = Vec::new(alloc);
+    let mut links: Vec<LinkList> = Vec::with_capacity(alloc, row_indices)?;
     for _ in 0..row_indices {
         links.push(LinkList::new(alloc))?;
     }

@@ -361,7 +361,7 @@ pub fn links_of_units(
         AllZip (IsLinkedFor (keys_of names.now) groups.now row_indices)
         links.items (scope_units project.now.files texts.now scans)) }
 {
-    let mut links = Vec::new(alloc);
+    let mut links = Vec::with_capacity(alloc, row_indices + groups.len())?;
     let mut want = no_want(alloc);
     for file in 0..project.files.len() {
         let library = &project.files.get(file).name.library;

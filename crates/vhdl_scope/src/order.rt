@@ -96,7 +96,7 @@ pub fn order_of(alloc: Global, links: &[LinkList]) -> Result<Vec<usize>, NoMemor
     ensures { IfOk result (λ order. All (λ at. at < length links.now) order.items) }
 {
     let mut steps = Vec::new(alloc);
-    let mut order = Vec::new(alloc);
+    let mut order = Vec::with_capacity(alloc, links.len())?;
     let mut flags = vec![in alloc; false; links.len()]?;
     for at in 0..links.len() {
         enter(&mut steps, flags.as_mut_slice(), at)?;

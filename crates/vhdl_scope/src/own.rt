@@ -94,6 +94,16 @@ fn push_rows(
     Ok(())
 }
 
+/// The number of units of files and of groups, or `usize::MAX` if the number is larger. It only decides how much room is made
+/// for rows: no contract depends on it.
+fn room_for_rows(files: &[FileOutline], groups: usize) -> usize {
+    let mut count = groups;
+    for file in files {
+        count = count.saturating_add(file.scopes.len() as usize);
+    }
+    count
+}
+
 /// The rows that the units of files begin with, and after them one for each group, which has `work` and `std`.
 pub fn rows_of(
     alloc: Global,
@@ -112,7 +122,7 @@ pub fn rows_of(
 {
     let first = implicit_row(alloc, names, words)?;
     let mut room = Room::new(alloc, words)?;
-    let mut rows = Vec::new(alloc);
+    let mut rows = Vec::with_capacity(alloc, room_for_rows(files, groups))?;
     for file in files {
         push_rows(
             alloc,

@@ -8,6 +8,7 @@ ghost use Rattle.vhdl_outline.specs.Outlines.{FilesAreOf};
 ghost use Rattle.vhdl_scope.specs.Scopes.{AreScopes};
 
 use crate::groups::{Groups, Owned, add_groups};
+use crate::wants::is_secondary;
 use base::{Items, NoMemory, Project, Unit, UnitKind};
 use std::alloc::Global;
 use vhdl_outline::{FileOutline, room_for_units};
@@ -47,6 +48,27 @@ fn have_configuration(files: &[FileOutline]) -> bool
         .any(|file| has_configuration(file.units.as_slice()))
 }
 
+/// The number of units of a file that are in groups.
+fn units_in_groups(units: &[Unit], keeps: bool) -> usize {
+    let mut count: usize = 0;
+    for unit in units {
+        if keeps || !is_secondary(unit.kind) {
+            count = count.saturating_add(1);
+        }
+    }
+    count
+}
+
+/// The number of units of files that are in groups, or `usize::MAX` if the number is larger. It only decides how much room is
+/// made for groups: no contract depends on it.
+fn room_for_groups(files: &[FileOutline], keeps: bool) -> usize {
+    let mut count: usize = 0;
+    for file in files {
+        count = count.saturating_add(units_in_groups(file.units.as_slice(), keeps));
+    }
+    count
+}
+
 /// The units of a project, by the outlines of its files. Groups of architectures, which are many, are left out where no unit
 /// is a configuration.
 pub fn scopes_of(
@@ -60,8 +82,8 @@ pub fn scopes_of(
 {
     let keeps = have_configuration(files.as_slice());
     let mut starts = Vec::new(alloc);
-    let mut groups = Groups::with_room(alloc, room_for_units(files))?;
-    let mut owned = Vec::new(alloc);
+    let mut groups = Groups::with_room(alloc, room_for_groups(files.as_slice(), keeps))?;
+    let mut owned = Vec::with_capacity(alloc, room_for_units(files))?;
     for file in 0..project.files.len() {
         starts.push(owned.len())?;
         let library = &project.files.get(file).name.library;

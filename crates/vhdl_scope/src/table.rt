@@ -6,7 +6,7 @@ ghost use Rattle.std.specs.Option.{option_map};
 ghost use Rattle.base.specs.declared.design.Scan.{Scan};
 ghost use Rattle.vhdl_spec.specs.Visibility.{scope_units};
 ghost use Rattle.vhdl_outline.specs.Outlines.{AreOutlined, AreOutlinesOf, file_scopes};
-ghost use Rattle.vhdl_scope.specs.Exact.{AreGrown};
+ghost use Rattle.vhdl_scope.specs.Exact.{AreGrown, AreLinked};
 ghost use Rattle.vhdl_scope.specs.Names.{HasAll, implicit, keys_of};
 ghost use Rattle.vhdl_scope.specs.Scopes.{HasGroups};
 ghost use Rattle.vhdl_scope.specs.Tables.{AreVisible, table_sees};
@@ -14,6 +14,7 @@ ghost use Rattle.vhdl_scope.specs.Tables.{AreVisible, table_sees};
 use crate::groups::{Groups, Owned};
 use crate::joins::group_links;
 use crate::linking::links_of_units;
+use crate::links::LinkList;
 use crate::listing::sees_name;
 use crate::names::{self, Names, names_of};
 use crate::own::rows_of;
@@ -26,43 +27,79 @@ use std::alloc::Global;
 use std::marker::Model;
 use vhdl_outline::Outlines;
 
-/// The rows of units, grown until each takes all that it wants.
-fn grown_rows(
+/// The links of all units of a project and of their groups. What is known of groups is let go of as soon as it isn't needed, since
+/// rows take as much memory.
+fn linked(
     alloc: Global,
     names: &Names,
     outlines: &Outlines,
-    groups: &Groups,
-    owned: &[Owned],
+    groups: Groups,
+    owned: Vec<Owned>,
     project: &Project,
     texts: &TextList,
-) -> Result<Vec<Row>, NoMemory>
+) -> Result<Vec<LinkList>, NoMemory>
     requires each { length texts.now ≡ length project.now.files }
     requires outlined { AreOutlined texts.now outlines.now }
     requires named { HasAll
         (implicit ++ flat_map (λ unit. unit.names) (file_scopes outlines.now.files))
         [] (keys_of names.now) }
     requires grouped { (scans : List Scan) → AreOutlinesOf texts.now scans outlines.now →
-        HasGroups (scope_units project.now.files texts.now scans) groups.now owned.now }
-    ensures { IfOk result (λ rows. (scans : List Scan) →
+        HasGroups (scope_units project.now.files texts.now scans) groups owned.items }
+    ensures { IfOk result (λ links. (scans : List Scan) →
         AreOutlinesOf texts.now scans outlines.now →
-        AreGrown (file_scopes outlines.now.files)
-        (scope_units project.now.files texts.now scans) (keys_of names.now) rows.items) }
+        AreLinked (scope_units project.now.files texts.now scans)
+        (keys_of names.now) (length groups) links.items) }
 {
-    let files = outlines.files.as_slice();
     let units = owned.len();
     if units.checked_add(groups.len()).is_none() {
         return Err(NoMemory);
     }
-    let words = names.len() / 64 + 1;
-    let mut rows = rows_of(alloc, names, files, groups.len(), words)?;
     let library_number = match names::find(names, WORK.as_slice()) {
         Some(library_number) => library_number,
         None => unreachable!(),
     };
-    let mut links = links_of_units(alloc, names, groups, units, project, texts, &outlines.files)?;
-    let mut members = group_links(alloc, groups, owned, library_number)?;
+    let mut members = group_links(alloc, &groups, owned.as_slice(), library_number)?;
+    drop(owned);
+    let mut links = links_of_units(
+        alloc,
+        names,
+        &groups,
+        units,
+        project,
+        texts,
+        &outlines.files,
+    )?;
     links.append(&mut members)?;
-    spread(alloc, links.as_slice(), rows.as_mut_slice(), words)?;
+    Ok(links)
+}
+
+/// The rows of units and of this number of groups, grown along their links until each takes all that it wants.
+fn grown_rows(
+    alloc: Global,
+    names: &Names,
+    outlines: &Outlines,
+    groups: usize,
+    links: &[LinkList],
+    _project: &Project,
+    _texts: &TextList,
+) -> Result<Vec<Row>, NoMemory>
+    requires each { length _texts.now ≡ length _project.now.files }
+    requires outlined { AreOutlined _texts.now outlines.now }
+    requires named { HasAll
+        (implicit ++ flat_map (λ unit. unit.names) (file_scopes outlines.now.files))
+        [] (keys_of names.now) }
+    requires linked { (scans : List Scan) → AreOutlinesOf _texts.now scans outlines.now →
+        AreLinked (scope_units _project.now.files _texts.now scans)
+        (keys_of names.now) groups links.now }
+    ensures { IfOk result (λ rows. (scans : List Scan) →
+        AreOutlinesOf _texts.now scans outlines.now →
+        AreGrown (file_scopes outlines.now.files)
+        (scope_units _project.now.files _texts.now scans) (keys_of names.now) rows.items) }
+{
+    let files = outlines.files.as_slice();
+    let words = names.len() / 64 + 1;
+    let mut rows = rows_of(alloc, names, files, groups, words)?;
+    spread(alloc, links, rows.as_mut_slice(), words)?;
     Ok(rows)
 }
 
@@ -103,15 +140,20 @@ pub fn visible_sets(
         owned,
     } = scopes_of(alloc, project, &outlines.files)?;
     let names = names_of(alloc, outlines.files.as_slice())?;
-    let rows = grown_rows(
+    let units = owned.len();
+    let count = groups.len();
+    let links = linked(alloc, &names, outlines, groups, owned, project, texts)?;
+    let mut rows = grown_rows(
         alloc,
         &names,
         outlines,
-        &groups,
-        owned.as_slice(),
+        count,
+        links.as_slice(),
         project,
         texts,
     )?;
+    rows.truncate(units);
+    rows.shrink_to_fit();
     Ok(VisibleLibraries {
         starts,
         names,

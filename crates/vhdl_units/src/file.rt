@@ -114,5 +114,6 @@ fn read(
         lead = next.lead;
         at = next.last + 1;
     }
+    units.shrink_to_fit();
     Ok(Items::from_vec(units))
 }

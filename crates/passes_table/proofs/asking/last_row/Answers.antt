@@ -1,54 +1,17 @@
-use Rattle.std.proofs.Common.{◌≡◌, ◌<◌, ℕ, List, length, map, get_or, true≢false, sym, ap, subst, ◌∙◌, arith}
-use Rattle.std.proofs.lemmas.List.{get_or-map, length-map}
-use Rattle.base.specs.declared.graph.BuiltFile.{BuiltFile}
-use Rattle.store_table.specs.Located.{located_texts}
-use Rattle.passes_spec.specs.Passes.{Pass}
-use Rattle.passes_table.specs.Located.{listed_files, row_pass}
-use Rattle.passes_table.specs.Fingerprints.{tests_fingerprint}
-use Rattle.passes_table.specs.States.{HasTests}
-use Rattle.passes_table.proofs.LastRows.{IsUpTo, fingerprints_of, no_pass, up_found, up_further, up_low, up_none}
+use Rattle.std.proofs.Common.{true≢false, sym, subst, ◌∙◌}
+use Rattle.passes_table.specs.Located.{located_passes}
+use Rattle.passes_table.proofs.LastRows.{IsUpTo, no_last, row_found, row_passed}
 use Rattle.passes_table.proofs.asking.last_row.Goals as goal
 
 pub returns-then-is_of_tests : goal.returns-then-is_of_tests
 returns-then-is_of_tests c =
-    let segments : List (List ℕ) = c.args.held.now.segments in
-    let table = c.args.table.now in
-    let run = c.args.run.now in
-    let simulator : List (List ℕ) = c.args.simulator.now in
-    let lists : List (List BuiltFile) = map (listed_files table.names.keys (located_texts segments table.texts)) table.lists.keys in
-    let passes : List Pass = map (row_pass segments lists) table.rows.items in
-    let fingerprints : List ℕ = table.latest.fingerprints in
-    let fingerprinted : fingerprints ≡ map (λ (pass : Pass). tests_fingerprint pass.run pass.simulator) passes = c.requires.latest ∙ fingerprints_of (row_pass segments lists) table.rows.items in
-    let number : ℕ = c.in-Some.number in
-    let up = subst (IsUpTo run simulator passes fingerprints) c.in-Some.is c.loop-candidate.invariant in
-    let low : number < length table.rows.items = omega (arith, up_low run simulator passes fingerprints fingerprinted number up, length-map table.rows.items (row_pass segments lists)) in
-    let here : get_or passes number no_pass ≡ row_pass segments lists c.index.result.now = get_or-map (row_pass segments lists) table.rows.items number c.index.result.now no_pass low ∙ ap (row_pass segments lists) (sym c.index.ensures) in
-    up_found run simulator passes fingerprints fingerprinted number up (subst (HasTests run simulator) (sym here) ((c.is_of_tests.ensures lists).0 c.if-is_of_tests.true))
+    let up = subst (IsUpTo c.args.run.now c.args.simulator.now (located_passes c.args.held.now.segments c.args.table.now).passes c.args.table.now.latest.fingerprints) c.in-Some.is c.loop-candidate.invariant in
+    row_found c.args.held.now.segments c.args.table.now c.requires.latest c.args.run.now c.args.simulator.now c.in-Some.number c.index.result.now up c.index.ensures ((c.is_of_tests.ensures (located_passes c.args.held.now.segments c.args.table.now).lists).0 c.if-is_of_tests.true)
 
 pub loop-candidate-preserved : goal.loop-candidate-preserved
 loop-candidate-preserved c =
-    let segments : List (List ℕ) = c.args.held.now.segments in
-    let table = c.args.table.now in
-    let run = c.args.run.now in
-    let simulator : List (List ℕ) = c.args.simulator.now in
-    let lists : List (List BuiltFile) = map (listed_files table.names.keys (located_texts segments table.texts)) table.lists.keys in
-    let passes : List Pass = map (row_pass segments lists) table.rows.items in
-    let fingerprints : List ℕ = table.latest.fingerprints in
-    let fingerprinted : fingerprints ≡ map (λ (pass : Pass). tests_fingerprint pass.run pass.simulator) passes = c.requires.latest ∙ fingerprints_of (row_pass segments lists) table.rows.items in
-    let number : ℕ = c.in-Some.number in
-    let up = subst (IsUpTo run simulator passes fingerprints) c.in-Some.is c.loop-candidate.invariant in
-    let low : number < length table.rows.items = omega (arith, up_low run simulator passes fingerprints fingerprinted number up, length-map table.rows.items (row_pass segments lists)) in
-    let here : get_or passes number no_pass ≡ row_pass segments lists c.index.result.now = get_or-map (row_pass segments lists) table.rows.items number c.index.result.now no_pass low ∙ ap (row_pass segments lists) (sym c.index.ensures) in
-    up_further run simulator passes fingerprints fingerprinted number c.earlier-candidate.result up (λ is. true≢false (sym ((c.is_of_tests.ensures lists).1 (subst (HasTests run simulator) here is)) ∙ c.if-is_of_tests.false)) c.earlier-candidate.ensures
+    let up = subst (IsUpTo c.args.run.now c.args.simulator.now (located_passes c.args.held.now.segments c.args.table.now).passes c.args.table.now.latest.fingerprints) c.in-Some.is c.loop-candidate.invariant in
+    row_passed c.args.held.now.segments c.args.table.now c.requires.latest c.args.run.now c.args.simulator.now c.in-Some.number c.index.result.now c.earlier-candidate.result up c.index.ensures (λ is. true≢false (sym ((c.is_of_tests.ensures (located_passes c.args.held.now.segments c.args.table.now).lists).1 is) ∙ c.if-is_of_tests.false)) c.earlier-candidate.ensures
 
 pub returns : goal.returns
-returns c =
-    let segments : List (List ℕ) = c.args.held.now.segments in
-    let table = c.args.table.now in
-    let run = c.args.run.now in
-    let simulator : List (List ℕ) = c.args.simulator.now in
-    let lists : List (List BuiltFile) = map (listed_files table.names.keys (located_texts segments table.texts)) table.lists.keys in
-    let passes : List Pass = map (row_pass segments lists) table.rows.items in
-    let fingerprints : List ℕ = table.latest.fingerprints in
-    let fingerprinted : fingerprints ≡ map (λ (pass : Pass). tests_fingerprint pass.run pass.simulator) passes = c.requires.latest ∙ fingerprints_of (row_pass segments lists) table.rows.items in
-    up_none run simulator passes fingerprints fingerprinted (subst (IsUpTo run simulator passes fingerprints) c.in_default.is c.loop-candidate.invariant)
+returns c = no_last c.args.held.now.segments c.args.table.now c.requires.latest c.args.run.now c.args.simulator.now (subst (IsUpTo c.args.run.now c.args.simulator.now (located_passes c.args.held.now.segments c.args.table.now).passes c.args.table.now.latest.fingerprints) c.in_default.is c.loop-candidate.invariant)

@@ -15,22 +15,24 @@ use Rattle.passes_table.proofs.Counts.{files_count}
 use Rattle.passes_table.proofs.Files.{IsFileAt, files_begin, files_end, files_go_on, files_rest, files_stop, no_files_count}
 use Rattle.passes_table.proofs.NewLists.{next_not}
 use Rattle.passes_table.proofs.checking.listed_files.Goals as goal
+use Rattle.passes_table.proofs.checking.listed_files.Goals.{After-get-bytes}
 
 abbrev Listed : (segments : List (List ℕ)) → List FileName → List (List ℕ) → ListSoFar → List FileDraft → Type 0
 Listed segments names texts list files = AreListed segments names texts files list
 
+bytes_are : (c : After-get-bytes) → c.get-bytes.result.now ≡ nth_payload c.args.held.now.segments c.args.at
+bytes_are c = sym (get_or_from_slice_get c.args.held.now.segments c.args.at c.get-bytes.result.now [] c.get-bytes.ensures)
+
 pub returns-in_default-clause-listed : goal.returns-in_default-clause-listed
 returns-in_default-clause-listed c =
     let segments : List (List ℕ) = c.args.held.now.segments in
-    let bytes : c.get-bytes.result.now ≡ nth_payload segments c.args.at = sym (get_or_from_slice_get segments c.args.at c.get-bytes.result.now [] c.get-bytes.ensures) in
-    let none : number_at w32 (drop c.args.range.start (nth_payload segments c.args.at)) ≡ None = ap (λ (bs : List ℕ). number_at w32 (drop c.args.range.start bs)) (sym bytes) ∙ c.in_default.ensures in
+    let none : number_at w32 (drop c.args.range.start (nth_payload segments c.args.at)) ≡ None = ap (λ (bs : List ℕ). number_at w32 (drop c.args.range.start bs)) (sym (bytes_are ((goal.at.returns-in_default-clause-listed c).After-get-bytes))) ∙ c.in_default.ensures in
     absurd (no_files_count (λ files. ⊤) (nth_payload segments c.args.at) c.args.range c.requires.files none)
 
 pub returns-then-count-gt-FILE_LIMIT-clause-listed : goal.returns-then-count-gt-FILE_LIMIT-clause-listed
 returns-then-count-gt-FILE_LIMIT-clause-listed c =
     let segments : List (List ℕ) = c.args.held.now.segments in
-    let bytes : c.get-bytes.result.now ≡ nth_payload segments c.args.at = sym (get_or_from_slice_get segments c.args.at c.get-bytes.result.now [] c.get-bytes.ensures) in
-    let read = subst (λ (bs : List ℕ). IsReadAt c.args.range.start (λ (n : ℕ). n) bs (Some (c.in-Some.count, c.in-Some.first)) (number_at w32 (drop c.args.range.start bs))) bytes c.in-Some.ensures in
+    let read = subst (λ (bs : List ℕ). IsReadAt c.args.range.start (λ (n : ℕ). n) bs (Some (c.in-Some.count, c.in-Some.first)) (number_at w32 (drop c.args.range.start bs))) (bytes_are ((goal.at.returns-then-count-gt-FILE_LIMIT-clause-listed c).After-get-bytes)) c.in-Some.ensures in
     let size = files_count (nth_payload segments c.args.at) c.args.range c.in-Some.count (drop c.in-Some.first (nth_payload segments c.args.at)) c.requires.files read.0 in
     λ few. absurd (omega (arith, few, size, c.if-count-gt-FILE_LIMIT.true))
 
@@ -39,8 +41,7 @@ loop-init c =
     let segments : List (List ℕ) = c.args.held.now.segments in
     let table = c.args.table.now in
     let texts : List (List ℕ) = located_texts segments table.texts in
-    let bytes : c.get-bytes.result.now ≡ nth_payload segments c.args.at = sym (get_or_from_slice_get segments c.args.at c.get-bytes.result.now [] c.get-bytes.ensures) in
-    let read = subst (λ (bs : List ℕ). IsReadAt c.args.range.start (λ (n : ℕ). n) bs (Some (c.in-Some.count, c.in-Some.first)) (number_at w32 (drop c.args.range.start bs))) bytes c.in-Some.ensures in
+    let read = subst (λ (bs : List ℕ). IsReadAt c.args.range.start (λ (n : ℕ). n) bs (Some (c.in-Some.count, c.in-Some.first)) (number_at w32 (drop c.args.range.start bs))) (bytes_are ((goal.at.loop-init c).After-get-bytes)) c.in-Some.ensures in
     let list : ListSoFar = record { rows = c.new.result; fresh = c.new-2.result } in
     record {
       table = record { texts = c.requires.table.texts; lists = c.requires.table.lists; rows = c.requires.table.rows; names_once = c.requires.table.names_once; latest = c.requires.table.latest };
@@ -51,16 +52,13 @@ loop-init c =
 
 pub file_range-requires : goal.file_range-requires
 file_range-requires c =
-    let segments : List (List ℕ) = c.args.held.now.segments in
-    let bytes : c.get-bytes.result.now ≡ nth_payload segments c.args.at = sym (get_or_from_slice_get segments c.args.at c.get-bytes.result.now [] c.get-bytes.ensures) in
-    omega (arith, c.loop.invariant.files.within, ap length bytes)
+    omega (arith, c.loop.invariant.files.within, ap length (bytes_are ((goal.at.file_range-requires c).After-get-bytes)))
 
 pub returns-in_default-file_range-clause-listed : goal.returns-in_default-file_range-clause-listed
 returns-in_default-file_range-clause-listed c =
     let segments : List (List ℕ) = c.args.held.now.segments in
     let table = c.loop.table in
-    let bytes : c.get-bytes.result.now ≡ nth_payload segments c.args.at = sym (get_or_from_slice_get segments c.args.at c.get-bytes.result.now [] c.get-bytes.ensures) in
-    let none = ap (λ (bs : List ℕ). file_at (drop c.loop.next bs)) (sym bytes) ∙ c.in_default-file_range.ensures in
+    let none = ap (λ (bs : List ℕ). file_at (drop c.loop.next bs)) (sym (bytes_are ((goal.at.returns-in_default-file_range-clause-listed c).After-get-bytes))) ∙ c.in_default-file_range.ensures in
     absurd (files_stop (Listed segments table.names.keys (located_texts segments table.texts) c.loop.list) (nth_payload segments c.args.at) c.args.range c.requires.files c.in-Some.count c.loop.counter c.loop.next c.loop.invariant.files c.loop-test.true none)
 
 pub returns-then-not-is_valid-clause-listed : goal.returns-then-not-is_valid-clause-listed
@@ -69,8 +67,7 @@ returns-then-not-is_valid-clause-listed c =
     let table = c.loop.table in
     let texts' : List (List ℕ) = located_texts segments c.list_file.new.table.texts in
     let payload : List ℕ = nth_payload segments c.args.at in
-    let bytes : c.get-bytes.result.now ≡ nth_payload segments c.args.at = sym (get_or_from_slice_get segments c.args.at c.get-bytes.result.now [] c.get-bytes.ensures) in
-    let found = subst (λ (bs : List ℕ). IsFileAt bs c.loop.next c.in-Some-file_range.file c.in-Some-file_range.end) bytes c.in-Some-file_range.ensures in
+    let found = subst (λ (bs : List ℕ). IsFileAt bs c.loop.next c.in-Some-file_range.file c.in-Some-file_range.end) (bytes_are ((goal.at.returns-then-not-is_valid-clause-listed c).After-get-bytes)) c.in-Some-file_range.ensures in
     let file : FileDraft = file_in_ranges (nth_payload segments c.args.at) c.in-Some-file_range.file in
     let files = c.loop.invariant.files in
     let rest = files_rest (Listed segments table.names.keys (located_texts segments table.texts) c.loop.list) payload c.args.range c.requires.files c.in-Some.count c.loop.counter c.loop.next c.in-Some-file_range.end file files c.loop-test.true found.0 in
@@ -85,8 +82,7 @@ loop-preserved c =
     let texts : List (List ℕ) = located_texts segments table.texts in
     let texts' : List (List ℕ) = located_texts segments now.texts in
     let payload : List ℕ = nth_payload segments c.args.at in
-    let bytes : c.get-bytes.result.now ≡ nth_payload segments c.args.at = sym (get_or_from_slice_get segments c.args.at c.get-bytes.result.now [] c.get-bytes.ensures) in
-    let found = subst (λ (bs : List ℕ). IsFileAt bs c.loop.next c.in-Some-file_range.file c.in-Some-file_range.end) bytes c.in-Some-file_range.ensures in
+    let found = subst (λ (bs : List ℕ). IsFileAt bs c.loop.next c.in-Some-file_range.file c.in-Some-file_range.end) (bytes_are ((goal.at.loop-preserved c).After-get-bytes)) c.in-Some-file_range.ensures in
     let file : FileDraft = file_in_ranges (nth_payload segments c.args.at) c.in-Some-file_range.file in
     record {
       table = c.list_file.ensures.are;

@@ -1,59 +1,38 @@
-use Rattle.std.proofs.Common.{◌≡◌, ◌+◌, ◌<◌, ℕ, suc, true, false, drop, List, [], length, get_or, sym, ap, subst, ◌∙◌, arith}
+use Rattle.std.proofs.Common.{◌≡◌, ◌+◌, ℕ, suc, true, false, drop, [], length, sym, ap, subst, ◌∙◌, arith}
 use Rattle.std.proofs.lemmas.Option.{get_or_from_slice_get}
-use Rattle.store_table.specs.Located.{nth_payload}
 use Rattle.store_journal.specs.Payloads.{block}
 use Rattle.passes_spec.specs.Passes.{Pass}
-use Rattle.passes_codec.specs.Compaction.{FitsPass, spelled_pass}
+use Rattle.passes_codec.specs.Compaction.{spelled_pass}
 use Rattle.passes_codec.specs.Forms.{pass_bytes}
-use Rattle.passes_codec.specs.PassTables.{PassTable}
 use Rattle.passes_table.specs.declared.counting.CountedPasses.{CountedPasses}
 use Rattle.passes_table.specs.Kept.{IsAfterList, counted_on, kept_table}
 use Rattle.passes_table.specs.Located.{located_passes}
 use Rattle.passes_table.proofs.KeptOn.{counted_kept, counted_skipped}
-use Rattle.passes_table.proofs.KeptRows.{parts_at, parts_of_row, row_fits, row_low, superseded_at}
-use Rattle.passes_table.proofs.LastRows.{no_pass}
+use Rattle.passes_table.proofs.KeptRows.{IsCopied, parts_at, parts_fit, row_low, superseded_at}
 use Rattle.passes_table.proofs.counting.count_next.Goals as goal
+use Rattle.passes_table.proofs.counting.count_next.Goals.{In_ok-simulator}
+
+copied : (c : In_ok-simulator) → IsCopied c.args.held.now.segments c.args.table.now c.args.number c.index-row.result.now c.get-bytes.result.now c.in_ok-run.run' c.in_ok-simulator.simulator
+copied c = record { low = c.requires.number; is = sym c.index-row.ensures; bytes_are = sym (get_or_from_slice_get c.args.held.now.segments c.index-row.result.now.payload c.get-bytes.result.now [] c.get-bytes.ensures); run_is = c.in_ok-run.ensures; simulator_is = c.in_ok-simulator.ensures }
 
 pub returns-then-is_superseded-clause-on : goal.returns-then-is_superseded-clause-on
 returns-then-is_superseded-clause-on c =
-    let segments : List (List ℕ) = c.args.held.now.segments in
-    let table = c.args.table.now in
-    let there : PassTable = located_passes segments table in
-    let row = c.index-row.result.now in
-    let low : c.args.number < length table.rows.items = c.requires.number in
-    let bytes_are : c.get-bytes.result.now ≡ nth_payload segments row.payload = sym (get_or_from_slice_get segments row.payload c.get-bytes.result.now [] c.get-bytes.ensures) in
-    let tested = superseded_at segments table c.args.number row low (sym c.index-row.ensures) c.get-bytes.result.now c.in_ok-run.run' c.in_ok-simulator.simulator bytes_are c.in_ok-run.ensures c.in_ok-simulator.ensures true (sym c.if-is_superseded.true ∙ c.is_superseded.ensures) in
+    let is = copied (goal.at.returns-then-is_superseded-clause-on c).In_ok-simulator in
     let next : c.args.number + 1 ≡ suc c.args.number = omega arith in
-    ap (λ (n : ℕ). counted_on there c.args.counted.now (drop n there.passes)) next
-    ∙ counted_skipped there.passes c.args.number (row_low segments table c.args.number row low (sym c.index-row.ensures)) there c.args.counted.now c.args.counted.now tested
+    ap (λ (n : ℕ). counted_on (located_passes c.args.held.now.segments c.args.table.now) c.args.counted.now (drop n (located_passes c.args.held.now.segments c.args.table.now).passes)) next
+    ∙ counted_skipped (located_passes c.args.held.now.segments c.args.table.now).passes c.args.number (row_low c.args.held.now.segments c.args.table.now c.args.number c.index-row.result.now c.get-bytes.result.now c.in_ok-run.run' c.in_ok-simulator.simulator is) (located_passes c.args.held.now.segments c.args.table.now) c.args.counted.now c.args.counted.now (superseded_at c.args.held.now.segments c.args.table.now c.args.number c.index-row.result.now c.get-bytes.result.now c.in_ok-run.run' c.in_ok-simulator.simulator is true (sym c.if-is_superseded.true ∙ c.is_superseded.ensures))
 
 pub kept_size-requires-clause-parts : goal.kept_size-requires-clause-parts
-kept_size-requires-clause-parts c =
-    let segments : List (List ℕ) = c.args.held.now.segments in
-    let table = c.args.table.now in
-    let there : PassTable = located_passes segments table in
-    let row = c.index-row.result.now in
-    let low : c.args.number < length table.rows.items = c.requires.number in
-    let bytes_are : c.get-bytes.result.now ≡ nth_payload segments row.payload = sym (get_or_from_slice_get segments row.payload c.get-bytes.result.now [] c.get-bytes.ensures) in
-    let made : Pass = record { run = c.in_ok-run.run'; simulator = c.in_ok-simulator.simulator; built = get_or there.lists row.list []; output = c.bytes_in.result.now } in
-    let fits : FitsPass made = subst FitsPass (sym (parts_of_row segments table c.args.number row low (sym c.index-row.ensures) c.get-bytes.result.now c.in_ok-run.run' c.in_ok-simulator.simulator bytes_are c.in_ok-run.ensures c.in_ok-simulator.ensures c.bytes_in.result.now c.bytes_in.ensures)) (row_fits segments table c.args.number row low (sym c.index-row.ensures) (record { are = c.requires.table.are; is = c.requires.table.is })) in
-    record { run = fits.run; simulator = fits.simulator; output = fits.output }
+kept_size-requires-clause-parts c = (let fits = parts_fit c.args.held.now.segments c.args.table.now c.args.number c.index-row.result.now c.get-bytes.result.now c.in_ok-run.run' c.in_ok-simulator.simulator (copied (goal.at.kept_size-requires-clause-parts c).In_ok-simulator) (record { are = c.requires.table.are; is = c.requires.table.is }) c.bytes_in.result.now c.bytes_in.ensures in record { run = fits.run; simulator = fits.simulator; output = fits.output })
 
 pub returns-clause-on : goal.returns-clause-on
 returns-clause-on c =
-    let segments : List (List ℕ) = c.args.held.now.segments in
-    let table = c.args.table.now in
-    let there : PassTable = located_passes segments table in
-    let row = c.index-row.result.now in
-    let low : c.args.number < length table.rows.items = c.requires.number in
-    let bytes_are : c.get-bytes.result.now ≡ nth_payload segments row.payload = sym (get_or_from_slice_get segments row.payload c.get-bytes.result.now [] c.get-bytes.ensures) in
-    let made : Pass = record { run = c.in_ok-run.run'; simulator = c.in_ok-simulator.simulator; built = get_or there.lists row.list []; output = c.bytes_in.result.now } in
     let old = c.args.counted.now in
     let new : CountedPasses = record { bytes = c.saturating_add-counted.result; numbers = c.kept_size.new.numbers } in
-    let is : made ≡ get_or there.passes c.args.number no_pass = parts_at segments table c.args.number row low (sym c.index-row.ensures) c.get-bytes.result.now c.in_ok-run.run' c.in_ok-simulator.simulator bytes_are c.in_ok-run.ensures c.in_ok-simulator.ensures c.bytes_in.result.now c.bytes_in.ensures in
-    let tested = superseded_at segments table c.args.number row low (sym c.index-row.ensures) c.get-bytes.result.now c.in_ok-run.run' c.in_ok-simulator.simulator bytes_are c.in_ok-run.ensures c.in_ok-simulator.ensures false (sym c.if-is_superseded.false ∙ c.is_superseded.ensures) in
-    let size_is = c.in_ok-size.ensures.size ∙ ap (λ (p : Pass). length (block (pass_bytes (spelled_pass (kept_table there old.numbers.lists old.numbers.texts) p)))) is in
-    let after = subst (λ (p : Pass). IsAfterList there p.built old.numbers new.numbers) is (record { texts = c.in_ok-size.ensures.after.texts; lists = c.in_ok-size.ensures.after.lists }) in
+    let row = copied (goal.at.returns-clause-on c).In_ok-simulator in
+    let is = parts_at c.args.held.now.segments c.args.table.now c.args.number c.index-row.result.now c.get-bytes.result.now c.in_ok-run.run' c.in_ok-simulator.simulator row c.bytes_in.result.now c.bytes_in.ensures in
+    let size_is = c.in_ok-size.ensures.size ∙ ap (λ (p : Pass). length (block (pass_bytes (spelled_pass (kept_table (located_passes c.args.held.now.segments c.args.table.now) old.numbers.lists old.numbers.texts) p)))) is in
+    let after = subst (λ (p : Pass). IsAfterList (located_passes c.args.held.now.segments c.args.table.now) p.built old.numbers new.numbers) is (record { texts = c.in_ok-size.ensures.after.texts; lists = c.in_ok-size.ensures.after.lists }) in
     let next : c.args.number + 1 ≡ suc c.args.number = omega arith in
-    ap (λ (n : ℕ). counted_on there new (drop n there.passes)) next
-    ∙ counted_kept there.passes c.args.number (row_low segments table c.args.number row low (sym c.index-row.ensures)) there old new tested c.in_ok-size.size c.saturating_add-counted.ensures size_is after
+    ap (λ (n : ℕ). counted_on (located_passes c.args.held.now.segments c.args.table.now) new (drop n (located_passes c.args.held.now.segments c.args.table.now).passes)) next
+    ∙ counted_kept (located_passes c.args.held.now.segments c.args.table.now).passes c.args.number (row_low c.args.held.now.segments c.args.table.now c.args.number c.index-row.result.now c.get-bytes.result.now c.in_ok-run.run' c.in_ok-simulator.simulator row) (located_passes c.args.held.now.segments c.args.table.now) old new (superseded_at c.args.held.now.segments c.args.table.now c.args.number c.index-row.result.now c.get-bytes.result.now c.in_ok-run.run' c.in_ok-simulator.simulator row false (sym c.if-is_superseded.false ∙ c.is_superseded.ensures)) c.in_ok-size.size c.saturating_add-counted.ensures size_is after

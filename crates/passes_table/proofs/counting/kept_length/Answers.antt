@@ -10,13 +10,10 @@ use Rattle.passes_table.proofs.counting.kept_length.Goals as goal
 
 pub loop-number-init : goal.loop-number-init
 loop-number-init c =
-    let segments : List (List ℕ) = c.args.held.now.segments in
-    let table = c.args.table.now in
-    let there : PassTable = located_passes segments table in
-    let made = c.in_ok-no_numbers.ensures.are segments in
+    let made = c.in_ok-no_numbers.ensures.are c.args.held.now.segments in
     record {
       are = record { lists = made.lists; texts = made.texts };
-      same = counted_first there (record { bytes = 0; numbers = c.in_ok-no_numbers.field-0 }) there.passes refl (c.in_ok-no_numbers.ensures.none segments) ∙ ap (λ (t : PassTable). min (2 ^ 64 - 1) (length (flat_map block (compacted_passes t.passes)))) c.requires.is;
+      same = counted_first (located_passes c.args.held.now.segments c.args.table.now) (record { bytes = 0; numbers = c.in_ok-no_numbers.field-0 }) (located_passes c.args.held.now.segments c.args.table.now).passes refl (c.in_ok-no_numbers.ensures.none c.args.held.now.segments) ∙ ap (λ (t : PassTable). min (2 ^ 64 - 1) (length (flat_map block (compacted_passes t.passes)))) c.requires.is;
     }
 
 pub returns : goal.returns

@@ -1,62 +1,30 @@
-use Rattle.std.proofs.Common.{◌≡◌, ◌<◌, ℕ, List, ◌++◌, length, take, get_or, sym, ap, subst, ◌∙◌, append_assoc, arith}
-use Rattle.std.specs.Prelude.{Contains}
+use Rattle.std.proofs.Common.{◌≡◌, ℕ, List, ◌++◌, length, take, get_or, sym, ap, ◌∙◌, arith, append_assoc}
 use Rattle.std.specs.List.{flat_map}
-use Rattle.std.proofs.lemmas.List.{append-nil, get_or_default, length-map}
-use Rattle.base.specs.declared.file.FileName.{FileName}
+use Rattle.std.proofs.lemmas.List.{append-nil, length-map}
 use Rattle.store_table.specs.Located.{located_text, located_texts}
-use Rattle.store_table.specs.declared.products.ProductRow.{ProductRow}
 use Rattle.passes_codec.specs.Forms.{file_bytes}
-use Rattle.passes_table.specs.Pending.{all_known, all_texts, known_after, row_draft, row_drafts}
-use Rattle.passes_table.proofs.RowBytes.{next_bytes, next_known, no_drafts, no_product, none_known, order_at}
+use Rattle.passes_table.specs.Pending.{all_texts, row_draft, row_drafts}
+use Rattle.passes_table.proofs.RowBytes.{bytes_next, has_row, known_next, no_drafts, no_product, none_known, row_in_order}
 use Rattle.passes_table.proofs.writing.put_files.Goals as goal
 
 pub loop-row-init : goal.loop-row-init
 loop-row-init c =
-    let segments : List (List ℕ) = c.args.held.now.segments in
-    let table = c.args.table.now in
-    let texts : List (List ℕ) = located_texts segments table.texts in
-    let size : c.len-known.result ≡ length texts = omega (arith, c.len-known.ensures, length-map table.texts.indices.items (located_text segments)) in
-    record {
-      known = size ∙ none_known (length texts);
-      out = sym (append-nil c.args.out.now) ∙ ap (λ (bs : List ℕ). c.args.out.now ++ bs) (no_drafts table.names.keys (all_texts texts c.args.list.now) (length texts));
-    }
+    let texts : List (List ℕ) = located_texts c.args.held.now.segments c.args.table.now.texts in
+    let size : c.len-known.result ≡ length texts = omega (arith, c.len-known.ensures, length-map c.args.table.now.texts.indices.items (located_text c.args.held.now.segments)) in
+    record { known = size ∙ none_known (length texts); out = sym (append-nil c.args.out.now) ∙ ap (λ (bs : List ℕ). c.args.out.now ++ bs) (no_drafts c.args.table.now.names.keys (all_texts texts c.args.list.now) (length texts)) }
 
 pub put_row-requires-clause-row : goal.put_row-requires-clause-row
-put_row-requires-clause-row c =
-    let rows : List ProductRow = c.as_slice-rows.result.now in
-    let i : ℕ = c.loop-row.row-index in
-    subst (λ (rs : List ProductRow). Contains rs (get_or rows i no_product)) c.as_slice-rows.ensures (i, c.loop-row-test.true, get_or_default rows i (get_or rows i no_product) no_product c.loop-row-test.true)
+put_row-requires-clause-row c = has_row c.args.table.now.names.keys (all_texts (located_texts c.args.held.now.segments c.args.table.now.texts) c.args.list.now) (length (located_texts c.args.held.now.segments c.args.table.now.texts)) c.args.list.now.row.files c.as_slice-rows.result.now c.as_slice-rows.ensures c.loop-row.row-index c.loop-row.known c.loop-row-test.true c.loop-row.invariant.known
 
 pub after_row-known-requires-clause-low : goal.after_row-known-requires-clause-low
-after_row-known-requires-clause-low c =
-    let files : List ProductRow = c.args.list.now.row.files in
-    let texts : List (List ℕ) = located_texts c.args.held.now.segments c.args.table.now.texts in
-    let i : ℕ = c.loop-row.row-index in
-    let low : c.loop-row.row-index < length files = omega (arith, c.loop-row-test.true, ap length c.as_slice-rows.ensures) in
-    let here = order_at (length texts) files i no_product c.requires.list.in_order low in
-    omega (arith, here, ap (λ (rs : List ProductRow). (get_or rs i no_product).text) c.as_slice-rows.ensures, c.loop-row.invariant.known)
+after_row-known-requires-clause-low c = row_in_order c.args.table.now.names.keys (all_texts (located_texts c.args.held.now.segments c.args.table.now.texts) c.args.list.now) (length (located_texts c.args.held.now.segments c.args.table.now.texts)) c.args.list.now.row.files c.as_slice-rows.result.now c.as_slice-rows.ensures c.loop-row.row-index c.loop-row.known c.loop-row-test.true c.loop-row.invariant.known c.requires.list.in_order
 
 pub loop-row-preserved : goal.loop-row-preserved
-loop-row-preserved c =
-    let segments : List (List ℕ) = c.args.held.now.segments in
-    let table = c.args.table.now in
-    let names : List FileName = table.names.keys in
-    let files : List ProductRow = c.args.list.now.row.files in
-    let texts : List (List ℕ) = located_texts segments table.texts in
-    let all : List (List ℕ) = all_texts texts c.args.list.now in
-    let i : ℕ = c.loop-row.row-index in
-    let known : ℕ = all_known (length texts) (take i files) in
-    let row : ProductRow = get_or files i no_product in
-    let same : get_or c.as_slice-rows.result.now i no_product ≡ row = ap (λ (rs : List ProductRow). get_or rs i no_product) c.as_slice-rows.ensures in
-    let low : c.loop-row.row-index < length files = omega (arith, c.loop-row-test.true, ap length c.as_slice-rows.ensures) in
-    let is : get_or files i row ≡ row = get_or_default files i row no_product low in
-    let before : List ℕ = flat_map file_bytes (row_drafts names all (length texts) (take i files)) in
-    record {
-      known = c.after_row-known.ensures ∙ ap (known_after c.loop-row.known) same ∙ ap (λ (n : ℕ). known_after n row) c.loop-row.invariant.known ∙ sym (next_known names all (length texts) files i row low is);
-      out = c.in_ok-put_row.ensures
-          ∙ ap (λ (r : ProductRow). c.loop-row.out ++ file_bytes (row_draft names all c.loop-row.known r)) same
-          ∙ ap (λ (n : ℕ). c.loop-row.out ++ file_bytes (row_draft names all n row)) c.loop-row.invariant.known
-          ∙ ap (λ (bs : List ℕ). bs ++ file_bytes (row_draft names all known row)) c.loop-row.invariant.out
-          ∙ append_assoc c.args.out.now before (file_bytes (row_draft names all known row))
-          ∙ ap (λ (bs : List ℕ). c.args.out.now ++ bs) (sym (next_bytes names all (length texts) files i row low is));
-    }
+loop-row-preserved c = record {
+  known = c.after_row-known.ensures ∙ known_next c.args.table.now.names.keys (all_texts (located_texts c.args.held.now.segments c.args.table.now.texts) c.args.list.now) (length (located_texts c.args.held.now.segments c.args.table.now.texts)) c.args.list.now.row.files c.as_slice-rows.result.now c.as_slice-rows.ensures c.loop-row.row-index c.loop-row.known c.loop-row-test.true c.loop-row.invariant.known;
+  out =
+      c.in_ok-put_row.ensures
+      ∙ ap (λ (bs : List ℕ). bs ++ file_bytes (row_draft c.args.table.now.names.keys (all_texts (located_texts c.args.held.now.segments c.args.table.now.texts) c.args.list.now) c.loop-row.known (get_or c.as_slice-rows.result.now c.loop-row.row-index no_product))) c.loop-row.invariant.out
+      ∙ append_assoc c.args.out.now (flat_map file_bytes (row_drafts c.args.table.now.names.keys (all_texts (located_texts c.args.held.now.segments c.args.table.now.texts) c.args.list.now) (length (located_texts c.args.held.now.segments c.args.table.now.texts)) (take c.loop-row.row-index c.args.list.now.row.files))) (file_bytes (row_draft c.args.table.now.names.keys (all_texts (located_texts c.args.held.now.segments c.args.table.now.texts) c.args.list.now) c.loop-row.known (get_or c.as_slice-rows.result.now c.loop-row.row-index no_product)))
+      ∙ ap (λ (bs : List ℕ). c.args.out.now ++ bs) (sym (bytes_next c.args.table.now.names.keys (all_texts (located_texts c.args.held.now.segments c.args.table.now.texts) c.args.list.now) (length (located_texts c.args.held.now.segments c.args.table.now.texts)) c.args.list.now.row.files c.as_slice-rows.result.now c.as_slice-rows.ensures c.loop-row.row-index c.loop-row.known c.loop-row-test.true c.loop-row.invariant.known));
+}

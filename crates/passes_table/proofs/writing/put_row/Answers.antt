@@ -1,4 +1,4 @@
-use Rattle.std.proofs.Common.{ℕ, List, ◌++◌, length, get_or, sym, ap, subst, ◌∙◌, arith}
+use Rattle.std.proofs.Common.{List, ◌++◌, length, get_or, sym, ap, subst, ◌∙◌, arith}
 use Rattle.std.proofs.lemmas.Option.{get_or_from_slice_get}
 use Rattle.std.proofs.lemmas.Result.{on_ok_weaker}
 use Rattle.base.specs.declared.file.FileName.{FileName}
@@ -7,25 +7,14 @@ use Rattle.base_bytes.specs.TextRefs.{TextRef}
 use Rattle.store_codec.specs.Writing.{part_ref}
 use Rattle.store_table.specs.Located.{located_texts, no_name}
 use Rattle.passes_codec.specs.Forms.{file_bytes}
-use Rattle.passes_table.specs.Pending.{IsPending}
 use Rattle.passes_table.proofs.RowBytes.{pending_row}
 use Rattle.passes_table.proofs.writing.put_row.Goals as goal
 
 pub put_file-requires-clause-name : goal.put_file-requires-clause-name
-put_file-requires-clause-name c =
-    let names : List FileName = c.args.table.now.names.keys in
-    let texts : List (List ℕ) = located_texts c.args.held.now.segments c.args.table.now.texts in
-    let is : IsPending names texts c.args.list.now = record { located = c.requires.list.located; apart = c.requires.list.apart; rows = c.requires.list.rows; in_order = c.requires.list.in_order; all = c.requires.list.all; few = c.requires.list.few; fits = c.requires.list.fits } in
-    let own = pending_row names texts c.args.list.now c.args.row is c.requires.row in
-    subst FitsName (get_or_from_slice_get names c.args.row.name c.key.result.now no_name c.key.ensures) own.1.name
+put_file-requires-clause-name c = subst FitsName (get_or_from_slice_get c.args.table.now.names.keys c.args.row.name c.key.result.now no_name c.key.ensures) (pending_row c.args.table.now.names.keys (located_texts c.args.held.now.segments c.args.table.now.texts) c.args.list.now c.args.row (record { located = c.requires.list.located; apart = c.requires.list.apart; rows = c.requires.list.rows; in_order = c.requires.list.in_order; all = c.requires.list.all; few = c.requires.list.few; fits = c.requires.list.fits }) c.requires.row).1.name
 
 pub put_file-requires-clause-artefact : goal.put_file-requires-clause-artefact
-put_file-requires-clause-artefact c =
-    let names : List FileName = c.args.table.now.names.keys in
-    let texts : List (List ℕ) = located_texts c.args.held.now.segments c.args.table.now.texts in
-    let is : IsPending names texts c.args.list.now = record { located = c.requires.list.located; apart = c.requires.list.apart; rows = c.requires.list.rows; in_order = c.requires.list.in_order; all = c.requires.list.all; few = c.requires.list.few; fits = c.requires.list.fits } in
-    let own = pending_row names texts c.args.list.now c.args.row is c.requires.row in
-    omega (arith, own.1.artefact, ap length c.part_of-part.ensures.text)
+put_file-requires-clause-artefact c = omega (arith, (pending_row c.args.table.now.names.keys (located_texts c.args.held.now.segments c.args.table.now.texts) c.args.list.now c.args.row (record { located = c.requires.list.located; apart = c.requires.list.apart; rows = c.requires.list.rows; in_order = c.requires.list.in_order; all = c.requires.list.all; few = c.requires.list.few; fits = c.requires.list.fits }) c.requires.row).1.artefact, ap length c.part_of-part.ensures.text)
 
 pub returns : goal.returns
 returns c =

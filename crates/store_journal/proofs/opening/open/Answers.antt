@@ -1,7 +1,7 @@
 use Rattle.std.proofs.Common.{◌≡◌, ap, sym, subst, ◌∙◌}
 use Rattle.outside.specs.Disks.{DiskState, image_side, reads_of, side_of}
 use Rattle.store_journal.specs.Journals.{EndsAt}
-use Rattle.store_journal.proofs.Resting.{healthy_then, read_only, read_then, rests_then}
+use Rattle.store_journal.proofs.Resting.{read_only, read_then, rests_healthy}
 use Rattle.store_journal.proofs.Stays.{read_holds, read_holds_then}
 use Rattle.store_journal.proofs.WindowLemmas.{side_reads}
 use Rattle.store_journal.proofs.opening.open.Goals as goal
@@ -17,12 +17,8 @@ returns-clause-any_moment g c = λ told.
     read_then c.args.form (moments c.args.disk.now) (moments c.read_payloads.new.disk) (moments c.finish_opening.new.disk) (c.read_payloads.ensures.moments told) (c.in_ok-found.ensures.same told) (c.requires.settled told) (c.finish_opening.ensures.any_moment told)
 
 pub returns-clause-rests : goal.returns-clause-rests
-returns-clause-rests g c = λ told healthy.
-    let moments = g.D.Disk.moments in
-    let old = moments c.args.disk.now in
-    let middle = moments c.read_payloads.new.disk in
-    let same = ap reads_of (c.in_ok-found.ensures.same told) in
-    rests_then c.finish_opening.result old middle (moments c.finish_opening.new.disk) (c.read_payloads.ensures.moments told) same (c.finish_opening.ensures.rests told (healthy_then c.args.form old.now middle.now same healthy))
+returns-clause-rests g c = λ told.
+    rests_healthy c.args.form c.finish_opening.result (g.D.Disk.moments c.args.disk.now) (g.D.Disk.moments c.read_payloads.new.disk) (g.D.Disk.moments c.finish_opening.new.disk) (c.read_payloads.ensures.moments told) (ap reads_of (c.in_ok-found.ensures.same told)) (c.finish_opening.ensures.rests told)
 
 pub returns-in_err-found-clause-holds : goal.returns-in_err-found-clause-holds
 returns-in_err-found-clause-holds g c = λ told.

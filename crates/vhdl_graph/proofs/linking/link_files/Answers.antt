@@ -1,8 +1,7 @@
 -- One file more is linked, or is the first that lacks something.
-use Rattle.std.proofs.Common.{◌≡◌, ◌∙◌, ◌++◌, ◌∷◌, ℕ, ◌+◌, ◌<◌, ◌≤◌, false, Some, None, Option, List, [], length, map, get_or, take, refl, sym, ap, subst, arith}
+use Rattle.std.proofs.Common.{◌≡◌, ◌∙◌, ◌++◌, ◌∷◌, ℕ, ◌+◌, ◌<◌, ◌≤◌, Some, None, List, [], length, map, get_or, take, refl, sym, ap, subst, arith}
 use Rattle.std.specs.Prelude.{filter, slice_get}
 use Rattle.std.specs.List.{flat_map, list_any}
-use Rattle.std.specs.Option.{option_map_or}
 use Rattle.std.proofs.lemmas.Grind.{flat_map-append}
 use Rattle.std.proofs.lemmas.Option.{get_or_from_slice_get, slice_get-get_or, slice_get_within}
 use Rattle.std.proofs.lemmas.Result.{err_from_is_err_and}
@@ -14,13 +13,13 @@ use Rattle.base.specs.declared.linking.Warning.{Warning}
 use Rattle.base.specs.declared.project.Project.{Project}
 use Rattle.base.specs.declared.project.ProjectFile.{ProjectFile}
 use Rattle.base.specs.PresentGraph.{below}
-use Rattle.base_collections.specs.declared.set.PositionSet.{PositionSet}
 use Rattle.base_collections.specs.Positions.{has}
 use Rattle.vhdl_spec.specs.Dependencies.{LinkUnit, depends_on, edges_of, first_missing, first_some, link_unit, link_units, missing_of, warnings_of}
 use Rattle.vhdl_outline.specs.declared.outlines.FileOutline.{FileOutline}
 use Rattle.vhdl_outline.specs.Outlines.{IsOutlineOf, OutlineLiesIn}
 use Rattle.vhdl_outline.proofs.OutlineLemmas.{got_file}
 use Rattle.order.proofs.Finds.{filter_below}
+use Rattle.vhdl_graph.specs.Rows.{is_in_row}
 use Rattle.vhdl_graph.specs.Linking.{StandAll, unit_lacks, refers_from}
 use Rattle.vhdl_graph.proofs.IndexLemmas.{all_units, fault_on, files_after, files_more, no_file}
 use Rattle.vhdl_graph.proofs.FileLemmas.{any_map, below_none, file_missing, in_file, map_below, missing_of_file, none_missing, row_is, stand_all}
@@ -101,8 +100,6 @@ loop-file-preserved c scans are =
     let more = files_more project.files texts scans at named text scan is_file is_text is_scan in
     let stand : StandAll units c.args.tables.now at named text scan = stand_all project.files texts scans c.args.tables.now at named text scan (c.requires.seen scans are) is_file is_text is_scan in
     let gave = c.in_ok-link_file.ensures units named scan outlined (c.requires.known scans are) is_file stand in
-    let empty : PositionSet = record { words = [] } in
-    let row_within : at < length c.args.rows.now = omega (arith, within, c.requires.rows.each) in
     let edge : ℕ → List ℕ = λ user. filter (depends_on project units user) (below (length project.files)) in
     let zero_more : at ≡ 0 + at = omega arith in
     record {
@@ -112,8 +109,8 @@ loop-file-preserved c scans are =
           ∙ (ap (λ (es : List (List ℕ)). es ++ c.in_ok-positions_below.field-0 ∷ []) so_far.edges_are
           ∙ (ap (λ (e : List ℕ). map edge (below at) ++ e ∷ []) (c.in_ok-positions_below.ensures ∙ (ap (λ (n : ℕ). filter (has c.remove.new.self) (below n)) c.len-count.ensures
           ∙ filter_below (has c.remove.new.self) (depends_on project units at) (length project.files)
-          (λ k low. row_is project units at k c.new-row.result c.add_all.new.self c.link_file.new.row c.remove.new.self (has (get_or c.args.rows.now at empty) k) (list_any (λ design. refers_from project units (made design) (made design).refs k) scan.units) (c.new-row.ensures k) (c.add_all.ensures k) (gave.1.0 k) c.remove.ensures.is c.remove.ensures.others
-          (ap (λ (o : Option PositionSet). option_map_or (λ row. has row k) o false) (sym (slice_get-get_or c.args.rows.now at empty row_within)) ∙ c.requires.rows.pairs at k within (omega (arith, low, c.requires.few)))
+          (λ k low. row_is project units at k c.new-row.result c.add_row.new.row c.link_file.new.row c.remove.new.self (is_in_row c.args.rows.now at k) (list_any (λ design. refers_from project units (made design) (made design).refs k) scan.units) (c.new-row.ensures k) (c.add_row.ensures k) (gave.1.0 k) c.remove.ensures.is c.remove.ensures.others
+          (c.requires.rows.pairs at k within (omega (arith, low, c.requires.few)))
           (any_map (λ (unit : LinkUnit). refers_from project units unit unit.refs k) made scan.units ∙ sym (in_file (λ (unit : LinkUnit). refers_from project units unit unit.refs k) at 0 at project.files texts scans named text scan zero_more is_file is_text is_scan)))))
           ∙ sym (map_below edge at)));
       warnings_are =

@@ -3,7 +3,7 @@ use Rattle.std.proofs.Common.{arith, refl, sym, ap, subst, ◌∙◌, ◌+◌, �
 use Rattle.std.specs.Prelude.{All, Contains}
 use Rattle.std.proofs.lemmas.List.Edits.{length-remove}
 use Rattle.run_spec.specs.Moves.{position_of, without_child}
-use Rattle.run_scheduler.specs.Machines.{is_stopped_in, files_of, tickets_of, is_checked}
+use Rattle.run_scheduler.specs.Machines.{files_of, tickets_of, is_checked}
 use Rattle.run_spec.specs.Steps.{running_child, without_ticket}
 use Rattle.run_spec.specs.declared.child.Child.{Child}
 use Rattle.run_spec.proofs.ChildLists.{IsFirst, first_position, first_without, first_ticket}
@@ -43,10 +43,6 @@ returns-clause-in_step c workload schedule step =
     (subst (λ (xs : List Child). All (λ child. is_checked c.args.self.now child.position ≡ true) xs) (sym c.remove-child.ensures.items)
     (all_removed (λ (child : Child). is_checked c.args.self.now child.position ≡ true) c.args.self.now.children.items c.index_of-at.result step.started)) step.halted step
 
-pub returns-clause-files : goal.returns-clause-files
-unfolding files_of
-returns-clause-files c = refl
-
 pub returns-clause-tickets : goal.returns-clause-tickets
 unfolding tickets_of
 returns-clause-tickets c =
@@ -58,11 +54,3 @@ unfolding files_of
 returns-clause-nearer c =
     nearer_end c.args.self.now _ (omega arith) (omega arith)
     (ap (λ (xs : List Child). length xs + 1) c.remove-child.ensures.items ∙ length-remove c.args.self.now.children.items c.index_of-at.result (first c).0) (omega arith)
-
-pub returns-clause-same : goal.returns-clause-same
-unfolding is_checked
-returns-clause-same c = λ k. refl
-
-pub returns-clause-stopped : goal.returns-clause-stopped
-unfolding is_stopped_in
-returns-clause-stopped c = refl

@@ -4,7 +4,7 @@ use Rattle.std.specs.Prelude.{All}
 use Rattle.std.proofs.lemmas.List.{map-append, length-append}
 use Rattle.std.proofs.lemmas.List.Elements.{All-push}
 use Rattle.run_spec.specs.declared.child.Child.{Child}
-use Rattle.run_scheduler.specs.Machines.{is_stopped_in, is_checked, files_of, tickets_of}
+use Rattle.run_scheduler.specs.Machines.{files_of, tickets_of}
 use Rattle.run_scheduler.proofs.NextSteps.{IsStart, start_is}
 use Rattle.run_scheduler.proofs.Sets.{less_by, one_less_in}
 use Rattle.run_scheduler.proofs.MachineSteps.{in_step_started, lawful_start, start_checked, nearer_start}
@@ -24,10 +24,6 @@ pub returns-clause-in_step : goal.returns-clause-in_step
 returns-clause-in_step c workload schedule step =
     in_step_started c.args.self.now _ workload schedule c.args.at c.args.ticket (start_checked c.args.self.now workload schedule step c.args.at (start_is c.args.self.now c.args.at c.requires)) refl refl refl
     (less_by c.args.self.now.ready c.remove.new.self c.args.at c.remove.ensures.is c.remove.ensures.others) refl refl c.push_reserved.ensures.items refl step
-
-pub returns-clause-files : goal.returns-clause-files
-unfolding files_of
-returns-clause-files c = refl
 
 pub returns-clause-tickets : goal.returns-clause-tickets
 unfolding tickets_of
@@ -57,11 +53,3 @@ returns-clause-nearer c =
     nearer_start c.args.self.now _ (omega arith)
     (one_less_in c.args.self.now.ready c.remove.new.self c.args.at (files_of c.args.self.now) start.within (less_by c.args.self.now.ready c.remove.new.self c.args.at c.remove.ensures.is c.remove.ensures.others) start.ready)
     (ap (λ (xs : List Child). length xs) c.push_reserved.ensures.items ∙ length-append c.args.self.now.children.items ((record { ticket = c.args.ticket; position = c.args.at }) ∷ [])) (omega arith)
-
-pub returns-clause-checked : goal.returns-clause-checked
-unfolding is_checked
-returns-clause-checked c = λ k. refl
-
-pub returns-clause-stopped : goal.returns-clause-stopped
-unfolding is_stopped_in
-returns-clause-stopped c = refl

@@ -1,7 +1,7 @@
 -- What remains to be proved of `stop`.
 use Rattle.std.proofs.Common.{arith, refl, sym}
 use Rattle.run_spec.specs.Moves.{Halts, after_move}
-use Rattle.run_scheduler.specs.Machines.{is_checked, is_stopped_in, files_of, tickets_of}
+use Rattle.run_scheduler.specs.Machines.{files_of}
 use Rattle.run_scheduler.proofs.NextSteps.{start_is, no_check, no_start, on_from}
 use Rattle.run_scheduler.proofs.MachineSteps.{in_step_as, nearer_by, nearer_stop, stopped_last, or_true}
 use Rattle.run_scheduler.proofs.build_scheduler.BuildScheduler.stop.Goals as goal
@@ -10,14 +10,6 @@ pub returns-clause-in_step : goal.returns-clause-in_step
 unfolding after_move
 returns-clause-in_step c workload schedule step =
     in_step_as c.args.self.now _ workload schedule (after_move workload schedule Halts) refl refl refl refl refl refl refl (λ k lt is. refl) (λ k lt made. made) step.running step.started (sym (or_true c.args.self.now.is_halted)) step
-
-pub returns-clause-files : goal.returns-clause-files
-unfolding files_of
-returns-clause-files c = refl
-
-pub returns-clause-tickets : goal.returns-clause-tickets
-unfolding tickets_of
-returns-clause-tickets c = refl
 
 pub returns-clause-no_check : goal.returns-clause-no_check
 returns-clause-no_check c = no_check _ refl
@@ -33,11 +25,3 @@ pub returns-clause-ends : goal.returns-clause-ends
 unfolding files_of
 returns-clause-ends c at is =
     nearer_stop c.args.self.now _ (omega arith) (omega arith) (omega arith) refl (on_from c.args.self.now.is_halted c.args.self.now.is_stopped (start_is c.args.self.now at is).goes_on)
-
-pub returns-clause-checked : goal.returns-clause-checked
-unfolding is_checked
-returns-clause-checked c = λ k. refl
-
-pub returns-clause-stopped : goal.returns-clause-stopped
-unfolding is_stopped_in
-returns-clause-stopped c = refl

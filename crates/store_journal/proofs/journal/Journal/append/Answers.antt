@@ -17,9 +17,7 @@ begun live len bytes old new goes = went_once (write_step live len bytes old.now
 both : (live : Side) (len : ℕ) (bytes : List ℕ) (old middle new : Moments) → Goes (on_side live (writing len (length bytes)) old.now) old middle → middle.now ≡ on_side live (written_through len bytes) old.now → Goes (on_side live (writing (len - 1) 1) middle.now) middle new → Went (committing live len bytes old.now) old new
 unfolding committing
 both live len bytes old middle new first is second =
-    let after = on_side live (written_through len bytes) old.now in
-    let then = subst (λ (disk : DiskState). Goes (on_side live (writing (len - 1) 1) disk) middle new) is second in
-    went_on (write_step live len bytes old.now) _ old middle new first is (went_once (write_step live (len - 1) (1 ∷ []) after) [] middle new then)
+    went_on (write_step live len bytes old.now) _ old middle new first is (went_once (write_step live (len - 1) (1 ∷ []) (on_side live (written_through len bytes) old.now)) [] middle new (subst (λ (disk : DiskState). Goes (on_side live (writing (len - 1) 1) disk) middle new) is second))
 
 -- what both leave
 left : (live : Side) (len : ℕ) (bytes : List ℕ) (old middle new : DiskState) → middle ≡ on_side live (written_through len bytes) old → new ≡ on_side live (written_through (len - 1) (1 ∷ [])) middle → new ≡ last_moment old (committing live len bytes old)
@@ -32,17 +30,15 @@ returns-in_err-write_durably-clause-steps g c = λ told.
     let old = moments c.args.disk.now in
     let new = moments c.write_durably.new.disk in
     let bytes = c.args.bytes.now in
-    let went = begun c.self.inside.live c.self.inside.len bytes old new (c.write_durably.ensures.moments told) in
-    subst (λ (j : JournalState). Went (committing j.live j.len bytes old.now) old new) c.self.view_is went
+    subst (λ (j : JournalState). Went (committing j.live j.len bytes old.now) old new) c.self.view_is (begun c.self.inside.live c.self.inside.len bytes old new (c.write_durably.ensures.moments told))
 
 pub returns-clause-steps : goal.returns-clause-steps
 returns-clause-steps g c = λ told.
     let moments = g.D.Disk.moments in
     let old = moments c.args.disk.now in
-    let middle = moments c.write_durably.new.disk in
     let new = moments c.write_durably-2.new.disk in
     let bytes = c.args.bytes.now in
-    let went = both c.self.inside.live c.self.inside.len bytes old middle new (c.write_durably.ensures.moments told) (c.in_ok-write_durably.ensures.written told) (c.write_durably-2.ensures.moments told) in
+    let went = both c.self.inside.live c.self.inside.len bytes old (moments c.write_durably.new.disk) new (c.write_durably.ensures.moments told) (c.in_ok-write_durably.ensures.written told) (c.write_durably-2.ensures.moments told) in
     subst (λ (j : JournalState). Went (committing j.live j.len bytes old.now) old new) c.self.view_is went
 
 pub returns-clause-appended : goal.returns-clause-appended

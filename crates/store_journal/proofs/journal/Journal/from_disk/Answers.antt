@@ -3,7 +3,7 @@ use Rattle.outside.specs.Disks.{reads_of}
 use Rattle.store_journal.specs.Payloads.{payloads}
 use Rattle.store_journal.specs.Journals.{IsInStep}
 use Rattle.store_journal.proofs.Readings.{ok_both, present_has, read_has, then_all, then_has}
-use Rattle.store_journal.proofs.Resting.{healthy_then, rests_then}
+use Rattle.store_journal.proofs.Resting.{rests_healthy}
 use Rattle.store_journal.proofs.journal.Journal.from_disk.Goals as goal
 
 pub returns-in_err-headers-clause-any_moment : goal.returns-in_err-headers-clause-any_moment
@@ -32,9 +32,5 @@ returns-clause-held g c = λ told.
     (c.open_sides.ensures.in_step told) (c.open_sides.ensures.payloads told)
 
 pub returns-clause-rests : goal.returns-clause-rests
-returns-clause-rests g c = λ told healthy.
-    let moments = g.D.Disk.moments in
-    let old = moments c.args.disk.now in
-    let middle = moments c.read_headers.new.disk in
-    let same = ap reads_of (c.in_ok-headers.ensures.settled told) in
-    rests_then c.open_sides.result old middle (moments c.open_sides.new.disk) (c.read_headers.ensures.moments told) same (c.open_sides.ensures.rests told (healthy_then c.args.form old.now middle.now same healthy))
+returns-clause-rests g c = λ told.
+    rests_healthy c.args.form c.open_sides.result (g.D.Disk.moments c.args.disk.now) (g.D.Disk.moments c.read_headers.new.disk) (g.D.Disk.moments c.open_sides.new.disk) (c.read_headers.ensures.moments told) (ap reads_of (c.in_ok-headers.ensures.settled told)) (c.open_sides.ensures.rests told)

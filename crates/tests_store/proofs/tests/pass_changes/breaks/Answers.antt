@@ -1,0 +1,4 @@
+use Rattle.tests_store.proofs.tests.pass_changes.breaks.Goals as goal
+
+pub keep_listed-answer-requires-clause-in_step : goal.keep_listed-answer-requires-clause-in_step
+keep_listed-answer-requires-clause-in_step g c = λ told. c.in_ok-store.ensures.in_step told
