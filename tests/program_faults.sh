@@ -147,11 +147,14 @@ while slow.poll() is None:
     with open("calls") as file:
         has_failed = "(INJECTED)" in file.read()
     ran = run("project", "--compile", env=environment("beside"))
-    # (the run may end between the two)
-    if slow.poll() is None:
+    if ran == (3, b"", locked.encode()):
         seen += has_failed
-        if ran != (3, b"", locked.encode()):
-            fail("a second run after a failed call", f"it is {ran}")
+        continue
+    # (the run has just ended: it gives one lock back after the other, and its process is there a moment longer)
+    try:
+        slow.wait(1)
+    except subprocess.TimeoutExpired:
+        fail("a second run after a failed call", f"it is {ran}")
 if slow.returncode != 3 or not seen:
     fail("a failed call while compilers run", f"{slow.communicate()}, and it was looked at {seen} times")
 
